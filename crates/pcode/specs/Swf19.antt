@@ -1,4 +1,4 @@
--- What each action pops and pushes as SWF19 defines it (the columns of docs/SWF19.md), and what a delta must be to follow it.
+-- What each action pops and pushes as SWF19 defines it (docs/swf19-actions.md, columns pops and pushes), and what a delta must be to follow it.
 use mathlib.Core.Path.{_≡_}
 use mathlib.Core.Bool.{Bool, cond}
 use mathlib.Core.List.{List, [], _∷_}

@@ -126,6 +126,7 @@ pub fn token_of(word: u64) -> Token
     let number = word / 1099511627776;
     let start = (word / 1048576 % 1048576) as usize;
     let end = (word % 1048576) as usize;
+    let inner = start + 1;
     let kind = kind_of(number);
     let span = Span { start, end };
     if number / 65536 != 1 {
@@ -140,7 +141,7 @@ pub fn token_of(word: u64) -> Token
             kind,
             span,
             raw: Span {
-                start: start + 1,
+                start: inner,
                 end: 0,
             },
         };
@@ -149,7 +150,7 @@ pub fn token_of(word: u64) -> Token
         kind,
         span,
         raw: Span {
-            start: start + 1,
+            start: inner,
             end: end - 1,
         },
     }

@@ -28,10 +28,9 @@ pub token-of-spec : {M : Type 1} → statement M
 token-of-spec =
     tie.close
     (tie.spec
+    (λ c. search needs)
     (λ c κs. search needs)
     not-a-string
-    (λ c. search needs)
     at-the-start
-    (λ c. search needs)
     (λ c. search needs)
     string)

@@ -1,0 +1,24 @@
+-- `action_table::main` ends: it counts up to 100. Assumes nothing.
+use borrow.Author.Needs.{needs}
+use Prim.Native.Nat.{_≤_, _-_}
+use Rattle.action_table.proofs.main.Statement.{statement}
+use Rattle.action_table.proofs.main.Tie as tie
+
+abbrev Inv-loop : tie.InvT-loop
+Inv-loop n₀ n = n ≤ 100
+
+abbrev μ-loop : tie.MeasureT-loop
+μ-loop n₀ n = 100 - n
+
+pub main-spec : {M : Type 1} → statement M
+main-spec =
+    tie.close
+    (tie.spec
+    Inv-loop
+    μ-loop
+    (λ c. search needs)
+    (λ c κs. search needs)
+    (λ c. search needs)
+    (λ c. search needs)
+    (λ c. search needs)
+    (λ c. search needs))
