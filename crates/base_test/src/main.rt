@@ -1,4 +1,4 @@
-// Runs the leaves at their limits, a line for each answer.
+// Runs the leaves at their limits, a line for each case.
 use answers::Refusal;
 use libc::STDOUT_FILENO;
 use names::ActionName;
@@ -8,13 +8,26 @@ use tokens::Token;
 use tokens::TokenKind;
 ghost use Prim.Native.Nat.{_≤_};
 
-fn line(text: &[u8]) {
+fn print_text(text: &[u8]) {
     io::write_all(STDOUT_FILENO, text);
-    io::write_all(STDOUT_FILENO, b"\n");
 }
 
 fn print_number(n: u64) {
     io::print_decimal(STDOUT_FILENO, n);
+}
+
+fn print_span(s: Span) {
+    print_text(b" ");
+    print_number(s.start as u64);
+    print_text(b"..");
+    print_number(s.end as u64);
+}
+
+fn print_refusal(r: Refusal) {
+    print_text(b"refused ");
+    print_number(answers::refusal_number(r));
+    print_text(b" at ");
+    print_number(answers::refusal_place(r) as u64);
 }
 
 // ---- numbers there and back
@@ -45,181 +58,306 @@ fn count_back(limit: u64, of_kinds: bool) -> u64 {
     good
 }
 
-fn print_count(label: &[u8], limit: u64, of_kinds: bool) {
-    io::write_all(STDOUT_FILENO, label);
-    print_number(count_back(limit, of_kinds));
-    io::write_all(STDOUT_FILENO, b"\n");
+// ---- tokens: through the table word and back
+
+struct Written {
+    kind: TokenKind,
+    start: usize,
+    end: usize,
 }
 
-fn print_action(label: &[u8], a: ActionName) {
-    io::write_all(STDOUT_FILENO, label);
-    io::write_all(STDOUT_FILENO, b" ");
-    print_number(actions::action_number(a) as u64);
-    io::write_all(STDOUT_FILENO, b"\n");
+const WRITTEN: [Written; 9] = [
+    Written {
+        kind: TokenKind::Newline,
+        start: 0,
+        end: 1,
+    },
+    Written {
+        kind: TokenKind::String,
+        start: 0,
+        end: 2,
+    },
+    Written {
+        kind: TokenKind::String,
+        start: 65534,
+        end: 65536,
+    },
+    Written {
+        kind: TokenKind::String,
+        start: 0,
+        end: 0,
+    },
+    Written {
+        kind: TokenKind::Unknown,
+        start: 0,
+        end: 65536,
+    },
+    Written {
+        kind: TokenKind::Unknown,
+        start: 65536,
+        end: 65536,
+    },
+    Written {
+        kind: TokenKind::Register(255),
+        start: 7,
+        end: 18,
+    },
+    Written {
+        kind: TokenKind::Constant(65535),
+        start: 7,
+        end: 20,
+    },
+    Written {
+        kind: TokenKind::ActionName(ActionName::With),
+        start: 3,
+        end: 7,
+    },
+];
+
+fn word_at(i: usize) -> u64 {
+    if 9 <= i {
+        return 18446744073709551615;
+    }
+    let w = WRITTEN[i];
+    let kind = w.kind;
+    let start = w.start;
+    let end = w.end;
+    if 65536 < start {
+        return 0;
+    }
+    if 65536 < end {
+        return 0;
+    }
+    tokens::word_of(kind, start, end)
 }
 
-fn print_names() {
-    print_count(b"actions there and back: ", 65536, false);
-    print_count(b"kinds there and back: ", 2097152, true);
-    print_action(b"Add", ActionName::Add);
-    print_action(b"End", ActionName::End);
-    print_action(b"MBStringLength", ActionName::MBStringLength);
-    print_action(b"Push", ActionName::Push);
-    print_action(b"With", ActionName::With);
-    print_action(b"no action 100:", actions::action_at(100));
-}
-
-// ---- tokens
-
-fn print_span(s: Span) {
-    io::write_all(STDOUT_FILENO, b" ");
-    print_number(s.start as u64);
-    io::write_all(STDOUT_FILENO, b"..");
-    print_number(s.end as u64);
-}
-
-fn print_token(t: Token) {
+fn print_token(i: usize) {
+    let t = tokens::token_of(word_at(i));
     let kind = t.kind;
     let span = t.span;
     let raw = t.raw;
-    io::write_all(STDOUT_FILENO, b"token ");
+    print_text(b"token ");
     print_number(tokens::kind_number(kind));
     print_span(span);
     print_span(raw);
-    io::write_all(STDOUT_FILENO, b"\n");
-}
-
-fn print_tokens() {
-    print_token(tokens::token_of(tokens::word_of(TokenKind::Newline, 0, 1)));
-    print_token(tokens::token_of(tokens::word_of(TokenKind::String, 0, 2)));
-    print_token(tokens::token_of(tokens::word_of(TokenKind::String, 65534, 65536)));
-    print_token(tokens::token_of(tokens::word_of(TokenKind::String, 0, 0)));
-    print_token(tokens::token_of(tokens::word_of(TokenKind::Unknown, 0, 65536)));
-    print_token(tokens::token_of(tokens::word_of(TokenKind::Unknown, 65536, 65536)));
-    print_token(tokens::token_of(tokens::word_of(TokenKind::Register(255), 7, 18)));
-    print_token(tokens::token_of(tokens::word_of(TokenKind::Constant(65535), 7, 20)));
-    print_token(tokens::token_of(tokens::word_of(TokenKind::ActionName(ActionName::With), 3, 7)));
-    print_token(tokens::token_of(18446744073709551615));
 }
 
 // ---- raw text
 
-fn print_raw(start: usize, end: usize) {
-    let bounds = Span { start, end };
+const LARGEST: usize = 18446744073709551615;
+
+const BOUNDS: [Span; 13] = [
+    Span { start: 0, end: 10 },
+    Span { start: 0, end: 5 },
+    Span { start: 7, end: 10 },
+    Span { start: 9, end: 10 },
+    Span { start: 10, end: 10 },
+    Span { start: 3, end: 3 },
+    Span { start: 4, end: 3 },
+    Span { start: 0, end: 11 },
+    Span { start: 10, end: 11 },
+    Span { start: 11, end: 11 },
+    Span {
+        start: LARGEST,
+        end: 0,
+    },
+    Span {
+        start: 0,
+        end: LARGEST,
+    },
+    Span {
+        start: LARGEST,
+        end: LARGEST,
+    },
+];
+
+fn print_raw(i: usize) {
+    if 13 <= i {
+        return;
+    }
+    let bounds = BOUNDS[i];
     let token = Token {
         kind: TokenKind::Identifier,
         span: bounds,
         raw: bounds,
     };
-    io::write_all(STDOUT_FILENO, b"raw");
+    print_text(b"raw");
     print_span(bounds);
-    io::write_all(STDOUT_FILENO, b" [");
-    io::write_all(STDOUT_FILENO, tokens::raw_text(b"start: Add", token));
-    line(b"]");
+    print_text(b" [");
+    print_text(tokens::raw_text(b"start: Add", token));
+    print_text(b"]");
 }
 
-fn print_raws() {
-    print_raw(0, 10);
-    print_raw(0, 5);
-    print_raw(7, 10);
-    print_raw(9, 10);
-    print_raw(10, 10);
-    print_raw(3, 3);
-    print_raw(4, 3);
-    print_raw(0, 11);
-    print_raw(10, 11);
-    print_raw(11, 11);
-    print_raw(18446744073709551615, 0);
-    print_raw(0, 18446744073709551615);
-    print_raw(18446744073709551615, 18446744073709551615);
+// ---- deltas
+
+struct Given {
+    action: ActionName,
+    values: usize,
+    name_is_empty: bool,
 }
 
-// ---- deltas and refusals
-
-fn print_refusal(r: Refusal) {
-    io::write_all(STDOUT_FILENO, b"refused ");
-    print_number(answers::refusal_number(r));
-    io::write_all(STDOUT_FILENO, b" at ");
-    print_number(answers::refusal_place(r) as u64);
-    io::write_all(STDOUT_FILENO, b"\n");
-}
+const GIVEN: [Given; 14] = [
+    Given {
+        action: ActionName::Push,
+        values: 0,
+        name_is_empty: false,
+    },
+    Given {
+        action: ActionName::Push,
+        values: 65535,
+        name_is_empty: false,
+    },
+    Given {
+        action: ActionName::Push,
+        values: 65536,
+        name_is_empty: false,
+    },
+    Given {
+        action: ActionName::Push,
+        values: 65537,
+        name_is_empty: false,
+    },
+    Given {
+        action: ActionName::Push,
+        values: LARGEST,
+        name_is_empty: false,
+    },
+    Given {
+        action: ActionName::GetTime,
+        values: 65536,
+        name_is_empty: false,
+    },
+    Given {
+        action: ActionName::GetTime,
+        values: 65537,
+        name_is_empty: false,
+    },
+    Given {
+        action: ActionName::Add,
+        values: 0,
+        name_is_empty: false,
+    },
+    Given {
+        action: ActionName::StartDrag,
+        values: 65536,
+        name_is_empty: false,
+    },
+    Given {
+        action: ActionName::StartDrag,
+        values: 65537,
+        name_is_empty: false,
+    },
+    Given {
+        action: ActionName::DefineFunction,
+        values: 0,
+        name_is_empty: false,
+    },
+    Given {
+        action: ActionName::DefineFunction,
+        values: 0,
+        name_is_empty: true,
+    },
+    Given {
+        action: ActionName::DefineFunction2,
+        values: 9,
+        name_is_empty: false,
+    },
+    Given {
+        action: ActionName::DefineFunction2,
+        values: 9,
+        name_is_empty: true,
+    },
+];
 
 fn print_known(d: i32) {
     match d {
-        -1 => line(b"-1"),
-        0 => line(b"0"),
-        1 => line(b"1"),
-        65535 => line(b"65535"),
-        65536 => line(b"65536"),
-        _ => line(b"another number"),
+        -1 => print_text(b"-1"),
+        0 => print_text(b"0"),
+        1 => print_text(b"1"),
+        65535 => print_text(b"65535"),
+        65536 => print_text(b"65536"),
+        _ => print_text(b"another number"),
     }
 }
 
-fn print_delta(label: &[u8], a: ActionName, values: usize, name_is_empty: bool) {
-    io::write_all(STDOUT_FILENO, label);
-    io::write_all(STDOUT_FILENO, b" ");
+fn print_delta(i: usize) {
+    if 14 <= i {
+        return;
+    }
+    let g = GIVEN[i];
+    let action = g.action;
+    let values = g.values;
+    let name_is_empty = g.name_is_empty;
+    print_text(b"delta of action ");
+    print_number(actions::action_number(action) as u64);
+    print_text(b" with ");
     print_number(values as u64);
-    io::write_all(STDOUT_FILENO, b": ");
-    match pcode::delta(a, values, name_is_empty) {
+    print_text(b": ");
+    match pcode::delta(action, values, name_is_empty) {
         StackDelta::Is(d) => print_known(d),
         StackDelta::Refused(r) => print_refusal(r),
     }
 }
 
-fn print_deltas() {
-    print_delta(b"Push", ActionName::Push, 0, false);
-    print_delta(b"Push", ActionName::Push, 65535, false);
-    print_delta(b"Push", ActionName::Push, 65536, false);
-    print_delta(b"Push", ActionName::Push, 65537, false);
-    print_delta(b"Push", ActionName::Push, 18446744073709551615, false);
-    print_delta(b"GetTime", ActionName::GetTime, 65536, false);
-    print_delta(b"GetTime", ActionName::GetTime, 65537, false);
-    print_delta(b"Add", ActionName::Add, 0, false);
-    print_delta(b"StartDrag", ActionName::StartDrag, 65536, false);
-    print_delta(b"StartDrag", ActionName::StartDrag, 65537, false);
-    print_delta(
-        b"DefineFunction named",
-        ActionName::DefineFunction,
-        0,
-        false,
-    );
-    print_delta(
-        b"DefineFunction unnamed",
-        ActionName::DefineFunction,
-        0,
-        true,
-    );
-    print_delta(
-        b"DefineFunction2 named",
-        ActionName::DefineFunction2,
-        9,
-        false,
-    );
-    print_delta(
-        b"DefineFunction2 unnamed",
-        ActionName::DefineFunction2,
-        9,
-        true,
-    );
+// ---- refusals
+
+const REFUSALS: [Refusal; 10] = [
+    Refusal::TooLong,
+    Refusal::NotUtf8(11),
+    Refusal::LoneQuote(12),
+    Refusal::CutCharacter(13),
+    Refusal::TokenTableShort(14),
+    Refusal::NotGrammatical(15),
+    Refusal::NoValue,
+    Refusal::TooDeep(16),
+    Refusal::TableShort(3),
+    Refusal::Undetermined,
+];
+
+fn print_row(i: usize) {
+    if 10 <= i {
+        return;
+    }
+    let r = REFUSALS[i];
+    print_refusal(r);
 }
 
-fn print_refusals() {
-    print_refusal(Refusal::TooLong);
-    print_refusal(Refusal::NotUtf8(11));
-    print_refusal(Refusal::LoneQuote(12));
-    print_refusal(Refusal::CutCharacter(13));
-    print_refusal(Refusal::TokenTableShort(14));
-    print_refusal(Refusal::NotGrammatical(15));
-    print_refusal(Refusal::NoValue);
-    print_refusal(Refusal::TooDeep(16));
-    print_refusal(Refusal::TableShort(3));
-    print_refusal(Refusal::Undetermined);
+// ---- all cases
+
+fn print_case(i: usize) {
+    if i < 10 {
+        print_token(i);
+        return;
+    }
+    if i < 23 {
+        print_raw(i - 10);
+        return;
+    }
+    if i < 37 {
+        print_delta(i - 23);
+        return;
+    }
+    print_row(i - 37);
+}
+
+fn print_line(i: usize) {
+    print_case(i);
+    print_text(b"\n");
+}
+
+fn print_lines() {
+    let mut i = 0;
+    while i < 47 {
+        print_line(i);
+        i += 1;
+    }
 }
 
 fn main() {
-    print_names();
-    print_tokens();
-    print_raws();
-    print_deltas();
-    print_refusals();
+    print_text(b"actions there and back: ");
+    print_number(count_back(65536, false));
+    print_text(b"\nkinds there and back: ");
+    print_number(count_back(2097152, true));
+    print_text(b"\n");
+    print_lines();
 }

@@ -1,14 +1,14 @@
--- `actions::shape_of` meets its contract, arm by arm. Assumes nothing.
+-- `shapes::shape_of` meets its contract, arm by arm. Assumes nothing.
 use borrow.Author.Needs.{needs}
 use mathlib.Core.Path.{refl, ap, sym}
 use mathlib.Core.List.{[], _∷_, map}
 use Rattle.names.specs.declared.ActionName.the-variants as A
 use Rattle.actions.specs.Numbers.{numberOf}
-use Rattle.actions.specs.Shapes.{Row, rows, shapeOf}
-use Rattle.actions.specs.declared.Shape.the-variants as S
+use Rattle.shapes.specs.Shapes.{Row, rows, shapeOf}
+use Rattle.shapes.specs.declared.Shape.the-variants as S
 use Rattle.actions.proofs.Arms.{arm, others}
-use Rattle.actions.proofs.shape_of.Statement.{statement}
-use Rattle.actions.proofs.shape_of.Tie as tie
+use Rattle.shapes.proofs.shape_of.Statement.{statement}
+use Rattle.shapes.proofs.shape_of.Tie as tie
 
 string : tie.Need-returns-7
 unfolding shapeOf numberOf

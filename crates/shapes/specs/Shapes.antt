@@ -1,9 +1,9 @@
 -- Which operands an action takes: document 01, 'Grammar', a row for each action that it names.
 use mathlib.Core.Bool.{cond}
 use mathlib.Core.List.{List, [], _∷_}
 use Rattle.actions.specs.Numbers.{isAction}
-use Rattle.actions.specs.declared.Shape.{Shape}
-use Rattle.actions.specs.declared.Shape.the-variants as S
+use Rattle.shapes.specs.declared.Shape.{Shape}
+use Rattle.shapes.specs.declared.Shape.the-variants as S
 use Rattle.names.specs.declared.ActionName.{ActionName}
 use Rattle.names.specs.declared.ActionName.the-variants as A
 
