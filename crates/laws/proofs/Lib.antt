@@ -1,3 +1,4 @@
+pub mod Lists
 pub mod Rest
 pub mod Tabulate
 pub mod Variants

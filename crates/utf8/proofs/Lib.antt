@@ -1,0 +1,4 @@
+mod Bench
+pub mod Starts
+pub mod Rows
+pub mod Valid
