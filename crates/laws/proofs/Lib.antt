@@ -1,4 +1,5 @@
 pub mod Lists
+pub mod Ranges
 pub mod Rest
 pub mod Tabulate
 pub mod Variants

@@ -2,10 +2,11 @@
 use mathlib.Core.Path.{_≡_, refl, ap, sym, _∙_}
 use mathlib.Core.Bool.{Bool, true, false, cond, _&&_}
 use mathlib.Core.List.{List, [], _∷_}
-use Prim.Native.Nat.{ℕ, suc, _+_, _-_, _≤_, _<_}
+use Prim.Native.Nat.{ℕ, suc, _+_, _≤_, _<_}
 use native.Mathlib.Omega.{arith}
 use lib.ListN.{length, drop, getD}
-use Rattle.laws.proofs.Tabulate.{agree, tabulate}
+use Rattle.laws.proofs.Ranges.{range}
+use Rattle.laws.proofs.Tabulate.{tabulate}
 use Rattle.utf8.specs.Utf8.{Range, holds, starts, rows, charIn, charLen}
 
 -- what may follow a first byte: the other ranges of each row that it begins
@@ -34,9 +35,7 @@ pub by-row : (s : List ℕ) (a n : ℕ) (v : List (List Range)) → tabulate (λ
     → 0 < length s → a ≤ getD s 0 0 → getD s 0 0 < a + n → charLen s ≡ lenAfter v (drop 1 s)
 by-row [] a n v e p h k = absurd (omega arith)
 by-row (b ∷ s) a n v e p h k =
-    let q : a + (b - a) ≡ b = omega arith in
-    by-first rows b s
-    ∙ ap (λ (l : List (List Range)). lenAfter l s) (ap (λ (x : ℕ). after x rows) (sym q) ∙ agree (λ j. after (a + j) rows) (λ j. v) n (b - a) e (omega arith))
+    by-first rows b s ∙ ap (λ (l : List (List Range)). lenAfter l s) (sym (range (λ x. after x rows) v b a n e h k))
 
 -- the same, from what the code tests: that the bytes after the first are in their ranges
 pub row : (s : List ℕ) (a n : ℕ) (rs : List Range) → tabulate (λ k. after (a + k) rows) 0 n ≡ tabulate (λ k. rs ∷ []) 0 n
