@@ -16,7 +16,7 @@ abbrev pub anyOf : List ℕ → ℕ → Bool
 anyOf [] n = false
 anyOf (k ∷ ks) n = eqb n k || anyOf ks n
 
-none-of : (ks : List ℕ) (n : ℕ) → (OneOf ks n → ⊥) → anyOf ks n ≡ false
+pub none-of : (ks : List ℕ) (n : ℕ) → (OneOf ks n → ⊥) → anyOf ks n ≡ false
 none-of [] n h = refl
 none-of (k ∷ []) n h = simp (ne-eqb n k h)
 none-of (k ∷ j ∷ ks) n h = simp (ne-eqb n k (λ e. h (inl e))) (none-of (j ∷ ks) n (λ o. h (inr o)))
@@ -35,9 +35,9 @@ module _ {S : Type 0} (f : ℕ → S) (v : S) (n : ℕ) where
       let q : a + (n - a) ≡ n = omega arith in
       sym (agree (λ k. f (a + k)) (λ k. v) m (n - a) e (omega arith)) ∙ ap f q
 
--- the arm of what is left, within a range: the numbers of the other arms do not count
-pub other : {S : Type 0} (f : ℕ → S) (v : S) (n : ℕ) (ks : List ℕ) (a m : ℕ)
-    → tabulate (λ k. cond (anyOf ks (a + k)) v (f (a + k))) 0 m ≡ tabulate (λ k. v) 0 m
-    → (OneOf ks n → ⊥) → a ≤ n → n < a + m → v ≡ f n
-other f v n ks a m e o h g =
-    range (λ k. cond (anyOf ks k) v (f k)) v n a m e h g ∙ ap (λ (t : Bool). cond t v (f n)) (none-of ks n o)
+-- the arm of what is left, within a range: the numbers that `skip` tells, those of other arms, do not count
+pub other : {S : Type 0} (f : ℕ → S) (v : S) (n : ℕ) (skip : ℕ → Bool) (a m : ℕ)
+    → tabulate (λ k. cond (skip (a + k)) v (f (a + k))) 0 m ≡ tabulate (λ k. v) 0 m
+    → skip n ≡ false → a ≤ n → n < a + m → v ≡ f n
+other f v n skip a m e o h g =
+    range (λ k. cond (skip k) v (f k)) v n a m e h g ∙ ap (λ (t : Bool). cond t v (f n)) o

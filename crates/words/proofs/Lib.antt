@@ -1,1 +1,4 @@
+pub mod Letters
 pub mod Spellings
+pub mod Tables
+pub mod Words

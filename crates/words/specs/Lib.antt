@@ -1,1 +1,3 @@
 pub mod Spellings
+pub mod Words
+pub mod Tables

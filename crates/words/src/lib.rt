@@ -1,8 +1,14 @@
-// The words of p-code: how the 100 actions are spelled.
+// The words of p-code: how the 100 actions are spelled, and which of them a word is, case ignored.
 use actions::action_number;
 use names::ActionName;
 ghost use mathlib.Core.Path.{_≡_};
-ghost use Rattle.words.specs.Spellings.{allLetters, spellingOf};
+ghost use mathlib.Core.Bool.{true};
+ghost use Prim.Native.Nat.{_+_, _<_, _≤_};
+ghost use lib.ListN.{length};
+ghost use lib.Seq.{slice};
+ghost use Rattle.words.specs.Spellings.{allLetters, spellings, spellingOf};
+ghost use Rattle.words.specs.Words.{lower, sameWord, indexIn};
+ghost use Rattle.words.specs.Tables.{Entry, cut, inOrder};
 
 // The letters of all names, one name after another.
 pub const LETTERS: [u8; 856] =
@@ -113,6 +119,43 @@ pub const STARTS: [usize; 101] = [
     856, // the end
 ];
 
+// Where the names begin whose first letter has each number, A and a being 1, and their end.
+const FIRSTS: [usize; 33] = [
+    0, // no letter
+    0, // A
+    4, // B
+    10, // C
+    17, // D
+    25, // E
+    32, // F
+    32, // G
+    42, // H
+    42, // I
+    48, // J
+    49, // K
+    49, // L
+    51, // M
+    57, // N
+    61, // O
+    62, // P
+    67, // Q
+    67, // R
+    70, // S
+    88, // T
+    97, // U
+    97, // V
+    97, // W
+    100, // X
+    100, // Y
+    100, // Z
+    100, // no letter
+    100, // no letter
+    100, // no letter
+    100, // no letter
+    100, // no letter
+    100, // the end
+];
+
 // An action's name as `ActionName` spells it: a part of `LETTERS`, which the caller lends.
 pub fn spelling(letters: &[u8], a: ActionName) -> &[u8]
     requires { ⌜ now letters ≡ allLetters ⌝ }
@@ -123,4 +166,77 @@ pub fn spelling(letters: &[u8], a: ActionName) -> &[u8]
     let start = starts[n];
     let end = starts[n + 1];
     &letters[start..end]
+}
+
+// Of A to Z the small letter.
+fn lower_byte(b: u8) -> u8
+    ensures { λ r. ⌜ r ≡ lower b ⌝ }
+{
+    if b < 65 {
+        return b;
+    }
+    if 90 < b {
+        return b;
+    }
+    b + 32
+}
+
+// Whether two words are the same, case ignored.
+pub fn same_word(w: &[u8], n: &[u8]) -> bool
+    ensures { λ r. ⌜ r ≡ sameWord (now (w .entry)) (now (n .entry)) ⌝ }
+{
+    if w.len() != n.len() {
+        return false;
+    }
+    let mut i = 0;
+    while i < w.len() {
+        if lower_byte(w[i]) != lower_byte(n[i]) {
+            return false;
+        }
+        i += 1;
+    }
+    true
+}
+
+// The first name from `lo` up to `hi` that the word is, or `hi`. The names are the letters, cut at the starts.
+pub fn find_between(w: &[u8], letters: &[u8], starts: &[usize], lo: usize, hi: usize) -> usize
+    requires { ⌜ inOrder 0 (now starts) (length (now letters)) ≡ true ⌝ }
+    requires { ⌜ (lo ≤ hi) × (hi < length (now starts)) ⌝ }
+    ensures { λ r. ⌜ r ≡ lo + indexIn (now (w .entry)) (slice lo hi (cut (now (starts .entry)) (now (letters .entry)))) ⌝ }
+{
+    let mut k = lo;
+    while k < hi {
+        let start = starts[k];
+        let end = starts[k + 1];
+        if same_word(w, &letters[start..end]) {
+            return k;
+        }
+        k += 1;
+    }
+    k
+}
+
+// A table's entry. A table that is lent stays where it is; one that is indexed by its name is copied first.
+fn entry(t: &[usize], i: usize) -> usize
+    requires { ⌜ i < length (now t) ⌝ }
+    ensures { λ r. ⌜ Entry (now (t .entry)) i r ⌝ }
+{
+    t[i]
+}
+
+// The number of the action that the word names, or 100. Only names with the word's first letter are looked at.
+pub fn find_action(w: &[u8]) -> usize
+    ensures { λ r. ⌜ r ≡ indexIn (now (w .entry)) spellings ⌝ }
+{
+    if w.len() == 0 {
+        return 100;
+    }
+    let letter = (w[0] % 32) as usize;
+    let lo = entry(&FIRSTS, letter);
+    let hi = entry(&FIRSTS, letter + 1);
+    let i = find_between(w, &LETTERS, &STARTS, lo, hi);
+    if i < hi {
+        return i;
+    }
+    100
 }

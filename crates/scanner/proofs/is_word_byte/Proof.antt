@@ -4,7 +4,7 @@ use mathlib.Core.Bool.{true, false}
 use mathlib.Core.List.{List, [], _∷_}
 use Prim.Native.Nat.{ℕ}
 use native.Mathlib.Omega.{arith}
-use Rattle.laws.proofs.Ranges.{arm, range, other}
+use Rattle.laws.proofs.Ranges.{anyOf, arm, none-of, other, range}
 use Rattle.scanner.specs.Bytes.{isWordByte}
 use Rattle.scanner.proofs.is_word_byte.Statement.{statement}
 use Rattle.scanner.proofs.is_word_byte.Tie as tie
@@ -30,19 +30,19 @@ lower c = range isWordByte true (c .before .before .before .before .before .befo
 
 below-digits : tie.Need-returns-5
 unfolding isWordByte
-below-digits c = other isWordByte false (c .before .before .args .b) signs 0 48 refl (c .before .match .rest .1) (omega arith) (omega arith)
+below-digits c = other isWordByte false (c .before .before .args .b) (anyOf signs) 0 48 refl (none-of signs (c .before .before .args .b) (c .before .match .rest .1)) (omega arith) (omega arith)
 
 below-upper : tie.Need-returns-6
 unfolding isWordByte
-below-upper c = other isWordByte false (c .before .before .before .before .args .b) signs 58 7 refl (c .before .before .before .match .rest .1) (omega arith) (omega arith)
+below-upper c = other isWordByte false (c .before .before .before .before .args .b) (anyOf signs) 58 7 refl (none-of signs (c .before .before .before .before .args .b) (c .before .before .before .match .rest .1)) (omega arith) (omega arith)
 
 below-lower : tie.Need-returns-7
 unfolding isWordByte
-below-lower c = other isWordByte false (c .before .before .before .before .before .before .args .b) signs 91 6 refl (c .before .before .before .before .before .match .rest .1) (omega arith) (omega arith)
+below-lower c = other isWordByte false (c .before .before .before .before .before .before .args .b) (anyOf signs) 91 6 refl (none-of signs (c .before .before .before .before .before .before .args .b) (c .before .before .before .before .before .match .rest .1)) (omega arith) (omega arith)
 
 above : tie.Need-returns-8
 unfolding isWordByte
-above c = other isWordByte false (c .before .before .before .before .before .before .before .args .b) signs 123 133 refl (c .before .before .before .before .before .before .match .rest .1) (omega arith) (omega (arith, c .before .before .before .before .before .before .before .fits .b))
+above c = other isWordByte false (c .before .before .before .before .before .before .before .args .b) (anyOf signs) 123 133 refl (none-of signs (c .before .before .before .before .before .before .before .args .b) (c .before .before .before .before .before .before .match .rest .1)) (omega arith) (omega (arith, c .before .before .before .before .before .before .before .fits .b))
 
 pub is-word-byte-spec : {M : Type 1} → statement M
 is-word-byte-spec =

@@ -1,0 +1,3 @@
+pub mod Bench
+pub mod Values
+pub mod WordKinds

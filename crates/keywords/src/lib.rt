@@ -1,0 +1,102 @@
+// The kind of a word: a constant, a register, an action's name, a keyword or an identifier.
+use tokens::TokenKind;
+ghost use mathlib.Core.Path.{_≡_};
+ghost use Prim.Native.Nat.{_≤_};
+ghost use Rattle.words.specs.Words.{indexIn};
+ghost use Rattle.keywords.specs.Keywords.{digitsUpTo, numberAfter, keywordWords, named, wordKind};
+
+// The number that stands behind a prefix.
+pub enum Suffix {
+    Number(u64),
+    Nothing,
+}
+
+// The letters of the keywords, one after another.
+const LETTERS: [u8; 34] = *b"catchfalsefinallynulltrueundefined";
+
+// Where each keyword starts in them, and their end.
+const STARTS: [usize; 7] = [0, 5, 10, 17, 21, 25, 34];
+
+const KINDS: [TokenKind; 6] = [
+    TokenKind::Catch,
+    TokenKind::False,
+    TokenKind::Finally,
+    TokenKind::Null,
+    TokenKind::True,
+    TokenKind::Undefined,
+];
+
+// The number that one or more digits write, if it is at most `top`.
+fn digits_up_to(top: u64, ds: &[u8]) -> Suffix
+    requires { ⌜ top ≤ 65535 ⌝ }
+    ensures { λ r. ⌜ r ≡ digitsUpTo top (now (ds .entry)) ⌝ }
+{
+    if ds.len() == 0 {
+        return Suffix::Nothing;
+    }
+    let mut n = 0;
+    let mut i = 0;
+    while i < ds.len() {
+        let d = ds[i];
+        if !scanner::is_digit(d) {
+            return Suffix::Nothing;
+        }
+        n = n * 10 + (d - 48) as u64;
+        if top < n {
+            return Suffix::Nothing;
+        }
+        i += 1;
+    }
+    Suffix::Number(n)
+}
+
+fn number_after(prefix: &[u8], top: u64, w: &[u8]) -> Suffix
+    requires { ⌜ top ≤ 65535 ⌝ }
+    ensures { λ r. ⌜ r ≡ numberAfter (now (prefix .entry)) top (now (w .entry)) ⌝ }
+{
+    let n = prefix.len();
+    if w.len() < n {
+        return Suffix::Nothing;
+    }
+    if !words::same_word(&w[..n], prefix) {
+        return Suffix::Nothing;
+    }
+    digits_up_to(top, &w[n..])
+}
+
+// The keyword that the word is, or 6.
+fn find_keyword(w: &[u8]) -> usize
+    ensures { λ r. ⌜ r ≡ indexIn (now (w .entry)) keywordWords ⌝ }
+{
+    words::find_between(w, &LETTERS, &STARTS, 0, 6)
+}
+
+// A word with no number behind it.
+fn named_kind(w: &[u8]) -> TokenKind
+    ensures { λ r. ⌜ r ≡ named (now (w .entry)) ⌝ }
+{
+    let i = words::find_action(w);
+    if i < 100 {
+        return TokenKind::ActionName(actions::action_at(i));
+    }
+    let j = find_keyword(w);
+    if j < 6 {
+        return KINDS[j];
+    }
+    TokenKind::Identifier
+}
+
+// The kind of a word.
+pub fn word_kind(w: &[u8]) -> TokenKind
+    ensures { λ r. ⌜ r ≡ wordKind (now (w .entry)) ⌝ }
+{
+    let constant = number_after(b"constant", 65535, w);
+    if let Suffix::Number(n) = constant {
+        return TokenKind::Constant(n as u16);
+    }
+    let register = number_after(b"register", 255, w);
+    if let Suffix::Number(n) = register {
+        return TokenKind::Register(n as u8);
+    }
+    named_kind(w)
+}

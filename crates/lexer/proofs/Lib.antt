@@ -1,0 +1,6 @@
+mod Bench
+pub mod Firsts
+pub mod Steps
+pub mod Rows
+pub mod Blanks
+pub mod Theorems

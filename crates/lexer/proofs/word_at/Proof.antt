@@ -1,0 +1,21 @@
+-- `lexer::word_at` meets its contract. Assumes nothing.
+use borrow.Author.Needs.{needs}
+use native.Mathlib.Omega.{arith}
+use lib.ListN.{length-take}
+use Rattle.scanner.specs.Bytes.{isWordByte}
+use Rattle.scanner.proofs.Runs.{run-fits}
+use Rattle.lexer.specs.First.{wordAt}
+use Rattle.lexer.proofs.word_at.Statement.{statement}
+use Rattle.lexer.proofs.word_at.Tie as tie
+
+inside : tie.Need-slice-aggregate-word-kind
+inside c =
+    let f = c .before .before .before in
+    simp length-take (omega (arith, c .before .word-end .ensures, run-fits isWordByte (f .args .s .now) 1 (f .pre)))
+
+returns : tie.Need-returns
+unfolding wordAt
+returns c = simp (← (c .before .before .word-end .ensures), ← (c .word-kind .ensures))
+
+pub word-at-spec : {M : Type 1} → statement M
+word-at-spec = tie.close (tie.spec (λ c κs. search needs) inside (λ c κs. search needs) returns)

@@ -1,0 +1,64 @@
+-- The token that a text starts with: document 01, 'Tokens', bullet by bullet.
+use mathlib.Core.Bool.{Bool, cond, _||_}
+use mathlib.Core.List.{List}
+use Prim.Native.Nat.{ℕ, _+_, _-_}
+use lib.Dec.{eqb, ltb}
+use lib.ListN.{length, take, getD}
+use Rattle.tokens.specs.declared.TokenKind.the-variants as K
+use Rattle.scanner.specs.Bytes.{between, isDigit}
+use Rattle.scanner.specs.Ends.{digitsEnd, exponentEnd, pointEnd, stringStop, wordEnd}
+use Rattle.keywords.specs.Keywords.{wordKind}
+use Rattle.lexer.specs.declared.Class.{Class}
+use Rattle.lexer.specs.declared.Class.the-variants as C
+use Rattle.lexer.specs.declared.Found.{Found}
+use Rattle.lexer.specs.declared.Found.the-variants as F
+
+-- the first byte alone decides the class
+unfoldable pub classOf : ℕ → Class
+classOf b =
+    cond (eqb b 32 || eqb b 9) C.Blank
+    (cond (eqb b 44) (C.One K.Comma)
+    (cond (eqb b 123) (C.One K.OpenBrace)
+    (cond (eqb b 125) (C.One K.CloseBrace)
+    (cond (eqb b 58) (C.One K.Colon)
+    (cond (eqb b 10) (C.One K.Newline)
+    (cond (eqb b 13) C.Return
+    (cond (between 97 122 b || (between 65 90 b || (eqb b 95 || eqb b 36))) C.Word
+    (cond (isDigit b || eqb b 45) C.Number
+    (cond (eqb b 34) C.Quote C.Other)))))))))
+
+-- a carriage return takes a following line feed with it
+unfoldable pub returnAt : List ℕ → Found
+returnAt s = F.Token K.Newline (cond (eqb (getD s 1 0) 10) 2 1)
+
+unfoldable pub wordAt : List ℕ → Found
+wordAt s = F.Token (wordKind (take (wordEnd s 1) s)) (wordEnd s 1)
+
+-- a digit or `-`, digits, an optional point with digits (then Float, else Integer), an optional exponent
+unfoldable pub numberAt : List ℕ → Found
+numberAt s =
+    F.Token (cond (eqb (getD s (digitsEnd s 1) 0) 46) K.Float K.Integer) (exponentEnd s (pointEnd s (digitsEnd s 1)))
+
+-- a string that stops at e: closed there; or row 3, its quote directly before the stop; or unclosed, its span to the stop;
+-- or row 4, its last character over one byte
+abbrev pub stringTo : List ℕ → ℕ → Found
+stringTo s e =
+    cond (eqb (getD s e 0) 34) (F.Token K.String (e + 1))
+    (cond (eqb e 1) F.LoneQuote
+    (cond (ltb (getD s (e - 1) 0) 128) (F.Token K.String e) F.CutCharacter))
+
+unfoldable pub stringAt : List ℕ → Found
+stringAt s = stringTo s (stringStop s 1)
+
+-- any other byte: one Unknown token to the end
+abbrev pub firstBy : Class → List ℕ → Found
+firstBy C.Blank s = F.Blank
+firstBy (C.One k) s = F.Token k 1
+firstBy C.Return s = returnAt s
+firstBy C.Word s = wordAt s
+firstBy C.Number s = numberAt s
+firstBy C.Quote s = stringAt s
+firstBy C.Other s = F.Token K.Unknown (length s)
+
+abbrev pub first : List ℕ → Found
+first s = firstBy (classOf (getD s 0 0)) s

@@ -1,0 +1,4 @@
+pub mod First
+pub mod Lexing
+pub mod Scratch
+pub mod Spans
