@@ -1,0 +1,54 @@
+//! The boundary of include/pcode.h, with safe functions over it.
+
+mod c {
+    unsafe extern "C" {
+        pub fn pcode_lex(text: *const u8, text_len: usize, table: *mut u64, table_len: usize, out: *mut u64) -> u64;
+        pub fn pcode_token(word: u64, out: *mut u64);
+        pub fn pcode_raw_text(text: *const u8, text_len: usize, start: usize, end: usize, out: *mut u64);
+    }
+}
+
+pub struct Token {
+    pub kind: u64,
+    pub span: (u64, u64),
+    pub raw: (u64, u64),
+}
+
+/// The token count, or a refusal's number and place.
+pub fn lex(text: &[u8], table: &mut [u64]) -> Result<u64, (u64, u64)> {
+    let mut out = [0u64; 1];
+    let number = unsafe { c::pcode_lex(text.as_ptr(), text.len(), table.as_mut_ptr(), table.len(), out.as_mut_ptr()) };
+    if number == 0 { Ok(out[0]) } else { Err((number, out[0])) }
+}
+
+pub fn token(word: u64) -> Token {
+    let mut out = [0u64; 5];
+    unsafe { c::pcode_token(word, out.as_mut_ptr()) };
+    Token { kind: out[0], span: (out[1], out[2]), raw: (out[3], out[4]) }
+}
+
+pub fn raw_text(text: &[u8], start: u64, end: u64) -> (u64, u64) {
+    let mut out = [0u64; 2];
+    unsafe { c::pcode_raw_text(text.as_ptr(), text.len(), start as usize, end as usize, out.as_mut_ptr()) };
+    (out[0], out[1])
+}
+
+/// Lexing alone into a table that the caller lends: best and median of five rounds, as the oracle's --bench prints its own.
+pub fn bench(text: &[u8], seconds: f64) {
+    let mut table = vec![0u64; text.len()];
+    let mut rounds = Vec::new();
+    for _ in 0..6 {
+        let start = std::time::Instant::now();
+        let mut runs = 0u64;
+        while start.elapsed().as_secs_f64() < seconds / 6.0 {
+            for _ in 0..16 {
+                std::hint::black_box(lex(std::hint::black_box(text), &mut table)).expect("the text is accepted");
+            }
+            runs += 16;
+        }
+        rounds.push(text.len() as f64 * runs as f64 / start.elapsed().as_secs_f64() / 1e6);
+    }
+    let mut timed = rounds.split_off(1);
+    timed.sort_by(f64::total_cmp);
+    println!("lexing {} bytes: {:.1} MB/s best, {:.1} median", text.len(), timed[4], timed[2]);
+}

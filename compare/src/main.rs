@@ -1,0 +1,246 @@
+//! Differential runs: the proved reader, linked as a static library, against the Rust it follows, run as a program.
+//!
+//!   compare ORACLE exhaustive ALPHABET LENGTH     every text over an alphabet up to a length
+//!   compare ORACLE MODE COUNT SEED                MODE: bytes, words, mutate
+//!   compare ORACLE boundary                       the sizes around 65,536 bytes
+//!   compare ORACLE all COUNT SEED                 all of these
+//!   compare ORACLE sample FILE COUNT SEED         the oracle's answers in FILE1, FILE2, .. of 65,536 bytes, for crates/lex_replay
+//!   compare ordinary FILE SIZE SEED               an ordinary patch of about that many bytes
+//!   compare bench FILE SECONDS                    lexing speed on one text
+
+mod ffi;
+mod texts;
+
+use std::collections::BTreeMap;
+use std::io::Write;
+use std::process::{Command, Stdio};
+
+const BATCH: usize = 20_000;
+const UNTOUCHED: u64 = 0xdead_beef_dead_beef;
+
+/// What one side says of a text: a refusal, or the tokens as lines of the oracle's dump.
+#[derive(PartialEq, Eq, Debug)]
+enum Lexed {
+    Refused(u64, u64),
+    Tokens(Vec<String>),
+}
+
+fn hex(bytes: &[u8]) -> String {
+    if bytes.is_empty() {
+        return "-".into();
+    }
+    bytes.iter().map(|b| format!("{b:02x}")).collect()
+}
+
+fn line(text: &[u8], word: u64) -> String {
+    let t = ffi::token(word);
+    let (start, end) = ffi::raw_text(text, t.raw.0, t.raw.1);
+    let raw = &text[start as usize..end as usize];
+    format!("{} {} {} {}", texts::kind_name(t.kind), t.span.0, t.span.1, hex(raw))
+}
+
+/// Lexes with a roomy table, an exact one and one that is a place short, and checks what each holds afterwards.
+fn ours(text: &[u8]) -> Result<Lexed, String> {
+    let mut table = vec![UNTOUCHED; text.len() + 1];
+    let n = match ffi::lex(text, &mut table) {
+        Err((number, place)) => {
+            if table.iter().any(|w| *w != UNTOUCHED) {
+                return Err(format!("refusal {number} wrote into the table"));
+            }
+            return Ok(Lexed::Refused(number, place));
+        }
+        Ok(n) => n as usize,
+    };
+    if n > text.len() || table[n..].iter().any(|w| *w != UNTOUCHED) {
+        return Err("wrote behind its tokens".into());
+    }
+    let mut exact = vec![UNTOUCHED; n];
+    if ffi::lex(text, &mut exact) != Ok(n as u64) || exact != table[..n] {
+        return Err("an exactly full table differs".into());
+    }
+    if n > 0 {
+        let mut short = vec![UNTOUCHED; n - 1];
+        if ffi::lex(text, &mut short) != Err((5, n as u64)) || short.iter().any(|w| *w != UNTOUCHED) {
+            return Err("a table one short is not refused with 5 and left alone".into());
+        }
+    }
+    Ok(Lexed::Tokens(table[..n].iter().map(|w| line(text, *w)).collect()))
+}
+
+/// The oracle's dump of a batch: for each text its tokens, or where UTF-8 ends, or that the Rust panicked.
+enum Theirs {
+    Tokens(Vec<String>),
+    Utf8(u64),
+    Panic,
+}
+
+fn theirs(oracle: &str, batch: &[Vec<u8>]) -> Vec<Theirs> {
+    let mut child = Command::new(oracle).arg("--dump").stdin(Stdio::piped()).stdout(Stdio::piped()).spawn().expect("the oracle starts");
+    let mut stdin = child.stdin.take().unwrap();
+    let framed: Vec<u8> = batch.iter().flat_map(|t| (t.len() as u32).to_le_bytes().into_iter().chain(t.iter().copied())).collect();
+    let feeder = std::thread::spawn(move || stdin.write_all(&framed));
+    let out = child.wait_with_output().expect("the oracle ends");
+    feeder.join().unwrap().unwrap();
+    let mut all = Vec::with_capacity(batch.len());
+    for l in String::from_utf8(out.stdout).unwrap().lines() {
+        if l.starts_with("## ") {
+            all.push(Theirs::Tokens(vec![]));
+        } else if let Some(rest) = l.strip_prefix("t ") {
+            if let Some(Theirs::Tokens(ts)) = all.last_mut() {
+                ts.push(rest.into());
+            }
+        } else if let Some(n) = l.strip_prefix("UTF8 ") {
+            *all.last_mut().unwrap() = Theirs::Utf8(n.parse().unwrap());
+        } else if l == "PANIC lex" {
+            *all.last_mut().unwrap() = Theirs::Panic;
+        }
+    }
+    assert_eq!(all.len(), batch.len(), "the oracle answers every text");
+    all
+}
+
+/// The counts of a run, and its first differences.
+#[derive(Default)]
+struct Report {
+    texts: u64,
+    tokens: u64,
+    refused: BTreeMap<u64, u64>,
+    differences: u64,
+}
+
+impl Report {
+    fn judge(&mut self, text: &[u8], theirs: &Theirs) {
+        self.texts += 1;
+        let ours = ours(text);
+        let same = match (&ours, theirs) {
+            (Ok(Lexed::Refused(1, 0)), _) => text.len() > 65536,
+            _ if text.len() > 65536 => false,
+            (Ok(Lexed::Refused(2, p)), Theirs::Utf8(q)) => p == q,
+            (Ok(Lexed::Refused(3 | 4, p)), Theirs::Panic) => text[*p as usize] == b'"',
+            (Ok(Lexed::Tokens(a)), Theirs::Tokens(b)) => a == b,
+            _ => false,
+        };
+        match &ours {
+            Ok(Lexed::Refused(n, _)) => *self.refused.entry(*n).or_default() += 1,
+            Ok(Lexed::Tokens(ts)) => self.tokens += ts.len() as u64,
+            Err(_) => {}
+        }
+        if !same {
+            self.differences += 1;
+            if self.differences <= 5 {
+                eprintln!("difference on {:?}: {:?}", String::from_utf8_lossy(&text[..text.len().min(200)]), ours);
+            }
+        }
+    }
+
+    fn run(&mut self, oracle: &str, all: impl Iterator<Item = Vec<u8>>) {
+        let mut batch = Vec::with_capacity(BATCH);
+        let mut bytes = 0;
+        for text in all {
+            bytes += text.len();
+            batch.push(text);
+            if batch.len() == BATCH || bytes > 4_000_000 {
+                self.judge_batch(oracle, &batch);
+                batch.clear();
+                bytes = 0;
+            }
+        }
+        self.judge_batch(oracle, &batch);
+    }
+
+    fn judge_batch(&mut self, oracle: &str, batch: &[Vec<u8>]) {
+        for (text, t) in batch.iter().zip(theirs(oracle, batch)) {
+            self.judge(text, &t);
+        }
+    }
+
+    fn print(&self, what: &str) {
+        let refused: Vec<String> = self.refused.iter().map(|(n, c)| format!("{c} refused {n}")).collect();
+        println!("{what}: {} texts, {} tokens, {}, {} differences", self.texts, self.tokens, refused.join(", "), self.differences);
+    }
+}
+
+fn compare(oracle: &str, mode: &str, args: &[String]) -> u64 {
+    let number = |i: usize| args.get(i).and_then(|a| a.parse::<u64>().ok()).expect("a number");
+    let mut report = Report::default();
+    match mode {
+        "exhaustive" => report.run(oracle, texts::exhaustive(&args[0], number(1) as usize)),
+        "bytes" => report.run(oracle, texts::bytes(number(0), number(1))),
+        "words" => report.run(oracle, texts::words(number(0), number(1))),
+        "mutate" => report.run(oracle, texts::mutate(number(0), number(1))),
+        "boundary" => report.run(oracle, texts::boundary()),
+        _ => panic!("no such mode: {mode}"),
+    }
+    report.print(&format!("{mode} {}", args.join(" ")));
+    report.differences
+}
+
+/// The oracle's answers on a fixed list of texts, in the format that the head of crates/lex_replay/src/main.rt tells.
+fn sample(oracle: &str, file: &str, count: u64, seed: u64) {
+    let all: Vec<Vec<u8>> = texts::telling()
+        .into_iter()
+        .chain(texts::words(count, seed))
+        .chain(texts::mutate(count, seed))
+        .chain(texts::bytes(count, seed))
+        .filter(|t| t.len() <= 4096)
+        .collect();
+    let mut out: Vec<Vec<u8>> = vec![vec![]];
+    let number = |n: u64, record: &mut Vec<u8>| record.extend_from_slice(&(n as u32).to_le_bytes());
+    for (text, t) in all.iter().zip(theirs(oracle, &all)) {
+        let mut record = Vec::new();
+        number(text.len() as u64, &mut record);
+        match t {
+            Theirs::Utf8(n) => [2, n].iter().for_each(|n| number(*n, &mut record)),
+            Theirs::Panic => [3, 0].iter().for_each(|n| number(*n, &mut record)),
+            Theirs::Tokens(lines) => {
+                [0, lines.len() as u64].iter().for_each(|n| number(*n, &mut record));
+                for l in &lines {
+                    texts::entry(text, l).iter().for_each(|n| number(*n, &mut record));
+                }
+            }
+        }
+        record.extend_from_slice(text);
+        if out.last().unwrap().len() + record.len() > 65_536 {
+            out.push(vec![]);
+        }
+        out.last_mut().unwrap().extend(record);
+    }
+    for (i, part) in out.iter().enumerate() {
+        std::fs::write(format!("{file}{}", i + 1), part).expect("the file");
+    }
+    println!("{} texts in {} files", all.len(), out.len());
+}
+
+fn main() {
+    let args: Vec<String> = std::env::args().skip(1).collect();
+    let words: Vec<&str> = args.iter().map(String::as_str).collect();
+    let differences = match words[..] {
+        ["bench", file, seconds] => {
+            ffi::bench(&std::fs::read(file).expect("the text"), seconds.parse().expect("seconds"));
+            0
+        }
+        ["ordinary", file, size, seed] => {
+            let text = texts::ordinary(size.parse().expect("a size"), seed.parse().expect("a seed"));
+            std::fs::write(file, text).expect("the file");
+            0
+        }
+        [oracle, "all", count, seed] => {
+            let more = [count.to_string(), seed.to_string()];
+            let mut d = compare(oracle, "boundary", &[]);
+            for (alphabet, length) in texts::ALPHABETS {
+                d += compare(oracle, "exhaustive", &[alphabet.to_string(), length.to_string()]);
+            }
+            for mode in ["bytes", "words", "mutate"] {
+                d += compare(oracle, mode, &more);
+            }
+            d
+        }
+        [oracle, "sample", file, count, seed] => {
+            sample(oracle, file, count.parse().expect("a count"), seed.parse().expect("a seed"));
+            0
+        }
+        [oracle, mode, ..] => compare(oracle, mode, &args[2..]),
+        _ => panic!("usage: see the head of src/main.rs"),
+    };
+    std::process::exit((differences != 0) as i32);
+}

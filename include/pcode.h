@@ -1,0 +1,37 @@
+/* The p-code reader for C. Link libpcode_c.a (`rt staticlib pcode_c`).
+ *
+ * No call asks anything of its arguments beyond that each pointer points to as many elements as the length beside it
+ * says. A call that can refuse returns 0, or the number of document 01's refusal:
+ *   1  a text over 65,536 bytes, or a list that long given to pcode_delta
+ *   2  not UTF-8; the place is the count of leading valid bytes
+ *   3  an opening quote directly before a line feed or the end; the place is the quote's byte
+ *   4  an unclosed string whose last character is over one byte; the place is the quote's byte
+ *   5  a token table with too few places; the place is the number of tokens
+ *   9  an action whose delta is undetermined
+ * A refusal changes no table.
+ */
+#ifndef PCODE_H
+#define PCODE_H
+
+#include <stdbool.h>
+#include <stddef.h>
+#include <stdint.h>
+
+/* All tokens of a text, a word each, at the front of the table. out[0]: their number, or the refusal's place. */
+uint64_t pcode_lex(const uint8_t *text, size_t text_len, uint64_t *table, size_t table_len, uint64_t out[1]);
+
+/* The token of a table word. out[0]: its kind, 65,536 times the place in TokenKind (0 Newline, 1 String, 2 Float,
+ * 3 Integer, 4 Register, 5 Constant, 6 ActionName, 7 Identifier, 8 Colon, 9 Comma, 10 OpenBrace, 11 CloseBrace, 12 True,
+ * 13 False, 14 Null, 15 Undefined, 16 Catch, 17 Finally, 18 Unknown) plus what it carries: the register, the constant or
+ * the number of the action. out[1], out[2]: start and end of its span. out[3], out[4]: start and end of its raw text. */
+void pcode_token(uint64_t word, uint64_t out[5]);
+
+/* The bounds of the raw text from start up to end: those bounds, or 0 and 0 where they are out of order or past the text. */
+void pcode_raw_text(const uint8_t *text, size_t text_len, size_t start, size_t end, uint64_t out[2]);
+
+/* What an action pushes less what it pops, in out[0]. The action is given by its number, 0 Add to 99 With in the order of
+ * ActionName (a number that no action has counts as 0); values: the value count of a Push; name_is_empty: whether the raw
+ * name of a DefineFunction or DefineFunction2 is empty. */
+uint64_t pcode_delta(size_t action, size_t values, bool name_is_empty, int32_t out[1]);
+
+#endif
