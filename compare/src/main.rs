@@ -1,7 +1,7 @@
 //! Differential runs: the proved reader, linked as a static library, against the Rust it follows, run as a program.
 //!
 //!   compare ORACLE exhaustive ALPHABET LENGTH     every text over an alphabet up to a length
-//!   compare ORACLE MODE COUNT SEED                MODE: bytes, words, mutate
+//!   compare ORACLE MODE COUNT SEED                MODE: bytes, words, grammar, mutate
 //!   compare ORACLE boundary                       the sizes around 65,536 bytes
 //!   compare ORACLE all COUNT SEED                 all of these
 //!   compare ORACLE sample FILE COUNT SEED         the oracle's answers in FILE1, FILE2, .. of 65,536 bytes, for crates/lex_replay
@@ -166,6 +166,7 @@ fn compare(oracle: &str, mode: &str, args: &[String]) -> u64 {
     match mode {
         "exhaustive" => report.run(oracle, texts::exhaustive(&args[0], number(1) as usize)),
         "bytes" => report.run(oracle, texts::bytes(number(0), number(1))),
+        "grammar" => report.run(oracle, texts::grammar(number(0), number(1))),
         "words" => report.run(oracle, texts::words(number(0), number(1))),
         "mutate" => report.run(oracle, texts::mutate(number(0), number(1))),
         "boundary" => report.run(oracle, texts::boundary()),
@@ -230,7 +231,7 @@ fn main() {
             for (alphabet, length) in texts::ALPHABETS {
                 d += compare(oracle, "exhaustive", &[alphabet.to_string(), length.to_string()]);
             }
-            for mode in ["bytes", "words", "mutate"] {
+            for mode in ["bytes", "words", "grammar", "mutate"] {
                 d += compare(oracle, mode, &more);
             }
             d

@@ -215,6 +215,46 @@ pub fn entry(text: &[u8], line: &str) -> [u64; 5] {
     [kind, start as u64, end as u64, (start + inner) as u64, (end - inner) as u64]
 }
 
+/// A level of grammatical p-code: labels, actions of every shape, blocks within blocks.
+fn level(r: &mut Random, depth: usize, s: &mut String) {
+    for _ in 0..r.below(6) {
+        match r.below(10) {
+            0 => s.push_str(&format!("l{}: ", r.below(4))),
+            1 => s.push_str(&format!("Push {}, \"a\\\"{}\", constant{}, nan, -{}.5e1\n", r.below(99999), r.below(9), r.below(70000), r.below(99))),
+            2 => s.push_str("ConstantPool \"a\", \"b\"\r\n"),
+            3 => s.push_str(&format!("If l{}\nJump l{}\n", r.below(4), r.below(4))),
+            4 => s.push_str(&format!("GotoFrame2 true, FALSE, {}\nWaitForFrame {}, {}\n", r.below(70000), r.below(9), r.below(256))),
+            5 if depth > 0 => block(r, depth, "With", s),
+            6 if depth > 0 => block(r, depth, "DefineFunction \"f\", 2, \"x\", \"y\"", s),
+            7 if depth > 0 => {
+                block(r, depth, "Try register1", s);
+                block(r, depth, "Catch", s);
+            }
+            _ => {
+                s.push_str(ACTIONS[r.below(100)]);
+                s.push('\n');
+            }
+        }
+    }
+}
+
+fn block(r: &mut Random, depth: usize, before: &str, s: &mut String) {
+    s.push_str(before);
+    s.push_str(" {\n");
+    level(r, depth - 1, s);
+    s.push_str("}\n");
+}
+
+/// Texts by the grammar of document 01, mostly accepted by the Rust's parser too.
+pub fn grammar(count: u64, seed: u64) -> impl Iterator<Item = Vec<u8>> {
+    let mut r = Random::new(seed ^ 0xaaaa);
+    (0..count).map(move |_| {
+        let mut s = String::new();
+        level(&mut r, 4, &mut s);
+        s.into_bytes()
+    })
+}
+
 /// An ordinary patch of about that many bytes: labels, pushes, branches and plain actions, a line each.
 pub fn ordinary(size: usize, seed: u64) -> Vec<u8> {
     let mut r = Random::new(seed);
