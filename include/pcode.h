@@ -31,7 +31,7 @@ void pcode_raw_text(const uint8_t *text, size_t text_len, size_t start, size_t e
 
 /* What an action pushes less what it pops, in out[0]. The action is given by its number, 0 Add to 99 With in the order of
  * ActionName (a number that no action has counts as 0); values: the value count of a Push; name_is_empty: whether the raw
- * name of a DefineFunction or DefineFunction2 is empty. */
+ * name of a DefineFunction or DefineFunction2 is empty. Refusals 1 and 9, both at place 0, leave out[0] as it was. */
 uint64_t pcode_delta(size_t action, size_t values, bool name_is_empty, int32_t out[1]);
 
 #endif

@@ -4,6 +4,7 @@ mod c {
     unsafe extern "C" {
         pub fn pcode_lex(text: *const u8, text_len: usize, table: *mut u64, table_len: usize, out: *mut u64) -> u64;
         pub fn pcode_token(word: u64, out: *mut u64);
+        pub fn pcode_delta(action: usize, values: usize, name_is_empty: bool, out: *mut i32) -> u64;
         pub fn pcode_raw_text(text: *const u8, text_len: usize, start: usize, end: usize, out: *mut u64);
     }
 }
@@ -31,6 +32,13 @@ pub fn raw_text(text: &[u8], start: u64, end: u64) -> (u64, u64) {
     let mut out = [0u64; 2];
     unsafe { c::pcode_raw_text(text.as_ptr(), text.len(), start as usize, end as usize, out.as_mut_ptr()) };
     (out[0], out[1])
+}
+
+/// The delta of an action, or a refusal's number.
+pub fn delta(action: usize, values: usize, name_is_empty: bool) -> Result<i32, u64> {
+    let mut out = [0i32; 1];
+    let number = unsafe { c::pcode_delta(action, values, name_is_empty, out.as_mut_ptr()) };
+    if number == 0 { Ok(out[0]) } else { Err(number) }
 }
 
 /// Lexing alone into a table that the caller lends: best and median of five rounds, as the oracle's --bench prints its own.

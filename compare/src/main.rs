@@ -4,6 +4,7 @@
 //!   compare ORACLE MODE COUNT SEED                MODE: bytes, words, grammar, mutate
 //!   compare ORACLE boundary                       the sizes around 65,536 bytes
 //!   compare ORACLE all COUNT SEED                 all of these
+//!   compare ORACLE deltas                         the delta of every action, with each kind of operands
 //!   compare ORACLE sample FILE COUNT SEED         the oracle's answers in FILE1, FILE2, .. of 65,536 bytes, for crates/lex_replay
 //!   compare ordinary FILE SIZE SEED               an ordinary patch of about that many bytes
 //!   compare bench FILE SECONDS                    lexing speed on one text
@@ -75,14 +76,9 @@ enum Theirs {
 }
 
 fn theirs(oracle: &str, batch: &[Vec<u8>]) -> Vec<Theirs> {
-    let mut child = Command::new(oracle).arg("--dump").stdin(Stdio::piped()).stdout(Stdio::piped()).spawn().expect("the oracle starts");
-    let mut stdin = child.stdin.take().unwrap();
-    let framed: Vec<u8> = batch.iter().flat_map(|t| (t.len() as u32).to_le_bytes().into_iter().chain(t.iter().copied())).collect();
-    let feeder = std::thread::spawn(move || stdin.write_all(&framed));
-    let out = child.wait_with_output().expect("the oracle ends");
-    feeder.join().unwrap().unwrap();
+    let out = dump(oracle, batch);
     let mut all = Vec::with_capacity(batch.len());
-    for l in String::from_utf8(out.stdout).unwrap().lines() {
+    for l in out.lines() {
         if l.starts_with("## ") {
             all.push(Theirs::Tokens(vec![]));
         } else if let Some(rest) = l.strip_prefix("t ") {
@@ -176,6 +172,40 @@ fn compare(oracle: &str, mode: &str, args: &[String]) -> u64 {
     report.differences
 }
 
+/// The lines of the oracle's dump.
+fn dump(oracle: &str, batch: &[Vec<u8>]) -> String {
+    let mut child = Command::new(oracle).arg("--dump").stdin(Stdio::piped()).stdout(Stdio::piped()).spawn().expect("the oracle starts");
+    let mut stdin = child.stdin.take().unwrap();
+    let framed: Vec<u8> = batch.iter().flat_map(|t| (t.len() as u32).to_le_bytes().into_iter().chain(t.iter().copied())).collect();
+    let feeder = std::thread::spawn(move || stdin.write_all(&framed));
+    let out = child.wait_with_output().expect("the oracle ends");
+    feeder.join().unwrap().unwrap();
+    String::from_utf8(out.stdout).unwrap()
+}
+
+/// The deltas of all actions: the oracle's, `?` where the Rust panics, against ours, refusal 9 there.
+fn deltas(oracle: &str) -> u64 {
+    let all = texts::one_action_each();
+    let batch: Vec<Vec<u8>> = all.iter().map(|a| a.0.clone().into_bytes()).collect();
+    let out = dump(oracle, &batch);
+    let told: Vec<&str> = out.lines().filter_map(|l| l.strip_prefix("a 0 ")).map(|l| l.split(' ').nth(1).unwrap()).collect();
+    assert_eq!(told.len(), all.len(), "the oracle reads one action in every text");
+    let mut differences = 0;
+    for ((text, number, values, empty), told) in all.iter().zip(&told) {
+        let ours = ffi::delta(*number, *values, *empty);
+        let same = match ours {
+            Ok(d) => *told == d.to_string(),
+            Err(n) => n == 9 && *told == "?",
+        };
+        if !same {
+            differences += 1;
+            eprintln!("delta of {text:?}: {ours:?}, the Rust {told}");
+        }
+    }
+    println!("deltas: {} texts, {} differences", all.len(), differences);
+    differences
+}
+
 /// The oracle's answers on a fixed list of texts, in the format that the head of crates/lex_replay/src/main.rt tells.
 fn sample(oracle: &str, file: &str, count: u64, seed: u64) {
     let all: Vec<Vec<u8>> = texts::telling()
@@ -227,7 +257,7 @@ fn main() {
         }
         [oracle, "all", count, seed] => {
             let more = [count.to_string(), seed.to_string()];
-            let mut d = compare(oracle, "boundary", &[]);
+            let mut d = deltas(oracle) + compare(oracle, "boundary", &[]);
             for (alphabet, length) in texts::ALPHABETS {
                 d += compare(oracle, "exhaustive", &[alphabet.to_string(), length.to_string()]);
             }
@@ -236,6 +266,7 @@ fn main() {
             }
             d
         }
+        [oracle, "deltas"] => deltas(oracle),
         [oracle, "sample", file, count, seed] => {
             sample(oracle, file, count.parse().expect("a count"), seed.parse().expect("a seed"));
             0

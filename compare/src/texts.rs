@@ -278,6 +278,30 @@ pub fn ordinary(size: usize, seed: u64) -> Vec<u8> {
     s.into_bytes()
 }
 
+/// A line for each action with operands that the grammar takes, its number, its value count and whether its name is empty.
+pub fn one_action_each() -> Vec<(String, usize, usize, bool)> {
+    let flags = ", true".repeat(9);
+    let mut all = Vec::new();
+    for (number, name) in ACTIONS.iter().enumerate() {
+        let operands = match *name {
+            "GetUrl" => vec![(r#" "a", "b""#.to_string(), 0, false)],
+            "GetUrl2" => vec![(" true, false, 1".into(), 0, false)],
+            "GotoFrame2" => vec![(" false, true".into(), 0, false), (" true, true, 7".into(), 0, false)],
+            "GotoLabel" | "SetTarget" => vec![(r#" "a""#.into(), 0, false)],
+            "If" | "Jump" => vec![(" a".into(), 0, false)],
+            "GotoFrame" | "StoreRegister" | "WaitForFrame2" => vec![(" 7".into(), 0, false)],
+            "WaitForFrame" => vec![(" 7, 8".into(), 0, false)],
+            "With" | "Try" => vec![(" {}".into(), 0, false)],
+            "DefineFunction" => vec![(r#" "", 0 {}"#.into(), 0, true), (r#" "f", 0 {}"#.into(), 0, false)],
+            "DefineFunction2" => vec![(format!(r#" "", 0, 1{flags} {{}}"#), 0, true), (format!(r#" "f", 0, 1{flags} {{}}"#), 0, false)],
+            "Push" => (0..5).map(|n| (format!(" {}", vec!["1"; n].join(", ")), n, false)).collect(),
+            _ => vec![(String::new(), 0, false)],
+        };
+        all.extend(operands.into_iter().map(|(o, values, empty)| (format!("{name}{o}"), number, values, empty)));
+    }
+    all
+}
+
 /// The oracle's name of a kind.
 pub fn kind_name(kind: u64) -> String {
     let carried = kind % 65536;

@@ -1,8 +1,9 @@
 -- Document 01's bench texts and others, with a table of 12 places: one claim of the definition, by computation. Assumes nothing.
 use mathlib.Core.Path.{_≡_, refl}
 use mathlib.Core.List.{List, [], _∷_, _++_, map}
-use Prim.Native.Nat.{ℕ}
+use Prim.Native.Nat.{ℕ, zero, suc}
 use Prim.Native.String.{String}
+use lib.ListN.{replicate}
 use Rattle.names.specs.declared.ActionName.{ActionName}
 use Rattle.names.specs.declared.ActionName.the-variants as A
 use Rattle.answers.specs.Answers.{Answer, accepted, refused}
@@ -17,7 +18,7 @@ use Rattle.words.specs.Spellings.{bytes, spellings}
 use Rattle.words.specs.Words.{indexIn, lower, sameWord}
 use Rattle.keywords.specs.Keywords.{allDigits, digitsUpTo, keywordWords, named, numberAfter, valueFrom, wordKind}
 use Rattle.lexer.specs.First.{classOf, numberAt, returnAt, stringAt, wordAt}
-use Rattle.lexer.specs.Lexing.{lexFrom, lexText}
+use Rattle.lexer.specs.Lexing.{counted, lexFrom, lexText}
 
 abbrev tok : TokenKind → ℕ → ℕ → Token
 tok k a e = tokenIn k (span a e)
@@ -43,6 +44,12 @@ cases =
     ∷ (bytes "Push -0, -0.0") gives accepted (act A.Push 0 4 ∷ tok K.Integer 5 7 ∷ tok K.Comma 7 8 ∷ tok K.Float 9 13 ∷ [])
     ∷ (bytes "Push constant65536") gives accepted (act A.Push 0 4 ∷ tok K.Identifier 5 18 ∷ [])
     ∷ (bytes "conSTANT0065535 register256 REGISTER255 register") gives accepted (tok (K.Constant 65535) 0 15 ∷ tok K.Identifier 16 27 ∷ tok (K.Register 255) 28 39 ∷ tok K.Identifier 40 48 ∷ [])
+    ∷ (bytes "Push constant65535") gives accepted (act A.Push 0 4 ∷ tok (K.Constant 65535) 5 18 ∷ [])
+    ∷ (bytes "Push register256") gives accepted (act A.Push 0 4 ∷ tok K.Identifier 5 16 ∷ [])
+    ∷ (bytes "Push register255") gives accepted (act A.Push 0 4 ∷ tok (K.Register 255) 5 16 ∷ [])
+    ∷ (bytes "StoreRegister 255") gives accepted (act A.StoreRegister 0 13 ∷ tok K.Integer 14 17 ∷ [])
+    ∷ (bytes "StoreRegister 256") gives accepted (act A.StoreRegister 0 13 ∷ tok K.Integer 14 17 ∷ [])
+    ∷ (bytes "StoreRegister -0") gives accepted (act A.StoreRegister 0 13 ∷ tok K.Integer 14 16 ∷ [])
     ∷ (34 ∷ []) gives refused 3 0
     ∷ (34 ∷ 10 ∷ []) gives refused 3 0
     ∷ (bytes "GotoLabel " ++ ((34 ∷ []) ++ (bytes "ab"))) gives accepted (act A.GotoLabel 0 9 ∷ tok K.String 10 13 ∷ [])
@@ -68,3 +75,23 @@ bench : map (λ (c : Case). lexText (c .text) 12) cases ≡ map (λ (c : Case). 
 unfolding cases bytes spellings indexIn lower sameWord allDigits digitsUpTo keywordWords named numberAfter valueFrom wordKind charIn starts validFrom
     isWordByte runOf exponentEnd pointEnd powerEnd signEnd untilStop classOf numberAt returnAt stringAt wordAt lexFrom lexText
 bench = refl
+
+-- ---- the nested texts: n times With, a line feed only after each closing brace
+
+abbrev opened : ℕ → List ℕ
+opened zero = []
+opened (suc n) = bytes "With{" ++ opened n
+
+abbrev closed : ℕ → List ℕ
+closed zero = []
+closed (suc n) = 125 ∷ 10 ∷ closed n
+
+-- 64 and 65 of them: two tokens to open and two to close each
+nested : map (λ (n : ℕ). counted (lexText (opened n ++ closed n) 65536)) (64 ∷ 65 ∷ []) ≡ accepted 256 ∷ accepted 260 ∷ []
+unfolding bytes spellings indexIn lower sameWord allDigits digitsUpTo keywordWords named numberAfter valueFrom wordKind charIn starts validFrom isWordByte runOf exponentEnd pointEnd powerEnd signEnd untilStop classOf numberAt returnAt stringAt wordAt lexFrom lexText
+nested = refl
+
+-- a byte more than 65,536
+too-long : lexText (replicate 65537 10) 65536 ≡ refused 1 0
+unfolding lexText
+too-long = refl
