@@ -5,7 +5,9 @@ use Rattle.names.specs.declared.ActionName.the-variants as A
 use Rattle.tokens.specs.declared.TokenKind.the-variants as K
 use Rattle.words.specs.Spellings.{bytes, spellings}
 use Rattle.words.specs.Words.{indexIn, lower, sameWord}
-use Rattle.keywords.specs.Keywords.{_means_, Keyword, allDigits, digitsUpTo, keywordWords, named, numberAfter, valueFrom, wordKind}
+use Rattle.scanner.specs.Bytes.{runOf}
+use Rattle.numbers.specs.Integers.{isNatural, natural, upTo, valueFrom, withByte}
+use Rattle.keywords.specs.Keywords.{_means_, Keyword, keywordWords, named, numberAfter, wordKind}
 
 abbrev words : List Keyword
 words =
@@ -26,5 +28,5 @@ words =
     ∷ []
 
 bench : map (λ (x : Keyword). wordKind (bytes (x .spelling))) words ≡ map (λ (x : Keyword). x .kind) words
-unfolding allDigits bytes digitsUpTo indexIn keywordWords lower named numberAfter sameWord spellings valueFrom wordKind
+unfolding bytes indexIn isNatural keywordWords lower named natural numberAfter runOf sameWord spellings upTo valueFrom withByte wordKind
 bench = refl

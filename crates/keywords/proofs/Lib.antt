@@ -1,3 +1,3 @@
 pub mod Bench
-pub mod Values
+pub mod Prefixes
 pub mod WordKinds

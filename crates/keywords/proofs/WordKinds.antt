@@ -11,8 +11,8 @@ use Rattle.tokens.specs.declared.TokenKind.the-variants as K
 use Rattle.words.specs.Spellings.{bytes, spellings}
 use Rattle.words.specs.Words.{indexIn}
 use Rattle.keywords.specs.Keywords.{keywordKinds, keywordWords, named, numberAfter, wordKind}
-use Rattle.keywords.specs.declared.Suffix.{Suffix}
-use Rattle.keywords.specs.declared.Suffix.the-variants.{Number, Nothing}
+use Rattle.numbers.specs.declared.Natural.{Natural}
+use Rattle.numbers.specs.declared.Natural.the-variants as N
 
 module _ (w : List ℕ) (i : ℕ) (ei : i ≡ indexIn w spellings) where
   pub action : i < 100 → K.ActionName (actionAt i) ≡ named w
@@ -30,16 +30,16 @@ module _ (w : List ℕ) (i : ℕ) (ei : i ≡ indexIn w spellings) where
     unfolding named
     identifier h = simp (← ei, le-ltb i 100 n, ← ej, List·getD-eq-default keywordKinds K.Identifier h)
 
-module _ (w : List ℕ) (x : Suffix) (ex : x ≡ numberAfter (bytes "constant") 65535 w) where
-  pub constant : (n : ℕ) → x ≡ Number n → K.Constant n ≡ wordKind w
+module _ (w : List ℕ) (x : Natural) (ex : x ≡ numberAfter (bytes "constant") 65535 w) where
+  pub constant : (n : ℕ) → x ≡ N.Is n → K.Constant n ≡ wordKind w
   unfolding wordKind
   constant n e = simp (← ex, e)
 
-  module _ (nx : x ≡ Nothing) (y : Suffix) (ey : y ≡ numberAfter (bytes "register") 255 w) where
-    pub register : (n : ℕ) → y ≡ Number n → K.Register n ≡ wordKind w
+  module _ (nx : x ≡ N.Nothing) (y : Natural) (ey : y ≡ numberAfter (bytes "register") 255 w) where
+    pub register : (n : ℕ) → y ≡ N.Is n → K.Register n ≡ wordKind w
     unfolding wordKind
     register n e = simp (← ex, nx, ← ey, e)
 
-    pub name : (k : TokenKind) → y ≡ Nothing → k ≡ named w → k ≡ wordKind w
+    pub name : (k : TokenKind) → y ≡ N.Nothing → k ≡ named w → k ≡ wordKind w
     unfolding wordKind
     name k e f = f ∙ simp (← ex, nx, ← ey, e)

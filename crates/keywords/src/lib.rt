@@ -1,15 +1,10 @@
 // The kind of a word: a constant, a register, an action's name, a keyword or an identifier.
+use numbers::Natural;
 use tokens::TokenKind;
 ghost use mathlib.Core.Path.{_≡_};
 ghost use Prim.Native.Nat.{_≤_};
 ghost use Rattle.words.specs.Words.{indexIn};
-ghost use Rattle.keywords.specs.Keywords.{digitsUpTo, numberAfter, keywordWords, named, wordKind};
-
-// The number that stands behind a prefix.
-pub enum Suffix {
-    Number(u64),
-    Nothing,
-}
+ghost use Rattle.keywords.specs.Keywords.{numberAfter, keywordWords, named, wordKind};
 
 // The letters of the keywords, one after another.
 const LETTERS: [u8; 34] = *b"catchfalsefinallynulltrueundefined";
@@ -26,42 +21,19 @@ const KINDS: [TokenKind; 6] = [
     TokenKind::Undefined,
 ];
 
-// The number that one or more digits write, if it is at most `top`.
-fn digits_up_to(top: u64, ds: &[u8]) -> Suffix
-    requires { ⌜ top ≤ 65535 ⌝ }
-    ensures { λ r. ⌜ r ≡ digitsUpTo top (now (ds .entry)) ⌝ }
-{
-    if ds.len() == 0 {
-        return Suffix::Nothing;
-    }
-    let mut n = 0;
-    let mut i = 0;
-    while i < ds.len() {
-        let d = ds[i];
-        if !scanner::is_digit(d) {
-            return Suffix::Nothing;
-        }
-        n = n * 10 + (d - 48) as u64;
-        if top < n {
-            return Suffix::Nothing;
-        }
-        i += 1;
-    }
-    Suffix::Number(n)
-}
-
-fn number_after(prefix: &[u8], top: u64, w: &[u8]) -> Suffix
+// The number that stands behind a prefix.
+fn number_after(prefix: &[u8], top: u64, w: &[u8]) -> Natural
     requires { ⌜ top ≤ 65535 ⌝ }
     ensures { λ r. ⌜ r ≡ numberAfter (now (prefix .entry)) top (now (w .entry)) ⌝ }
 {
     let n = prefix.len();
     if w.len() < n {
-        return Suffix::Nothing;
+        return Natural::Nothing;
     }
     if !words::same_word(&w[..n], prefix) {
-        return Suffix::Nothing;
+        return Natural::Nothing;
     }
-    digits_up_to(top, &w[n..])
+    numbers::parse_natural(top, &w[n..])
 }
 
 // The keyword that the word is, or 6.
@@ -91,11 +63,11 @@ pub fn word_kind(w: &[u8]) -> TokenKind
     ensures { λ r. ⌜ r ≡ wordKind (now (w .entry)) ⌝ }
 {
     let constant = number_after(b"constant", 65535, w);
-    if let Suffix::Number(n) = constant {
+    if let Natural::Is(n) = constant {
         return TokenKind::Constant(n as u16);
     }
     let register = number_after(b"register", 255, w);
-    if let Suffix::Number(n) = register {
+    if let Natural::Is(n) = register {
         return TokenKind::Register(n as u8);
     }
     named_kind(w)

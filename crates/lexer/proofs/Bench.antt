@@ -16,7 +16,8 @@ use Rattle.scanner.specs.Bytes.{isWordByte, runOf}
 use Rattle.scanner.specs.Ends.{exponentEnd, pointEnd, powerEnd, signEnd, untilStop}
 use Rattle.words.specs.Spellings.{bytes, spellings}
 use Rattle.words.specs.Words.{indexIn, lower, sameWord}
-use Rattle.keywords.specs.Keywords.{allDigits, digitsUpTo, keywordWords, named, numberAfter, valueFrom, wordKind}
+use Rattle.numbers.specs.Integers.{isNatural, natural, upTo, valueFrom, withByte}
+use Rattle.keywords.specs.Keywords.{keywordWords, named, numberAfter, wordKind}
 use Rattle.lexer.specs.First.{classOf, numberAt, returnAt, stringAt, wordAt}
 use Rattle.lexer.specs.Lexing.{counted, lexFrom, lexText}
 
@@ -72,7 +73,7 @@ cases =
     ∷ []
 
 bench : map (λ (c : Case). lexText (c .text) 12) cases ≡ map (λ (c : Case). c .lexed) cases
-unfolding cases bytes spellings indexIn lower sameWord allDigits digitsUpTo keywordWords named numberAfter valueFrom wordKind charIn starts validFrom
+unfolding cases bytes spellings indexIn lower sameWord isNatural keywordWords named natural numberAfter upTo valueFrom withByte wordKind charIn starts validFrom
     isWordByte runOf exponentEnd pointEnd powerEnd signEnd untilStop classOf numberAt returnAt stringAt wordAt lexFrom lexText
 bench = refl
 
@@ -88,7 +89,7 @@ closed (suc n) = 125 ∷ 10 ∷ closed n
 
 -- 64 and 65 of them: two tokens to open and two to close each
 nested : map (λ (n : ℕ). counted (lexText (opened n ++ closed n) 65536)) (64 ∷ 65 ∷ []) ≡ accepted 256 ∷ accepted 260 ∷ []
-unfolding bytes spellings indexIn lower sameWord allDigits digitsUpTo keywordWords named numberAfter valueFrom wordKind charIn starts validFrom isWordByte runOf exponentEnd pointEnd powerEnd signEnd untilStop classOf numberAt returnAt stringAt wordAt lexFrom lexText
+unfolding bytes spellings indexIn lower sameWord isNatural keywordWords named natural numberAfter upTo valueFrom withByte wordKind charIn starts validFrom isWordByte runOf exponentEnd pointEnd powerEnd signEnd untilStop classOf numberAt returnAt stringAt wordAt lexFrom lexText
 nested = refl
 
 -- a byte more than 65,536

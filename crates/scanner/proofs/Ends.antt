@@ -94,7 +94,7 @@ module _ (s : List ℕ) where
       wider i (i + 1) _ (omega arith) (digits-within (i + 1) (omega arith)))
       (here i h)
 
-  sign-within : (i : ℕ) → i ≤ length s → Within s i (signEnd s i)
+  pub sign-within : (i : ℕ) → i ≤ length s → Within s i (signEnd s i)
   unfolding signEnd
   sign-within i h =
       either (Within s i) (eqb (getD s i 0) 43 || eqb (getD s i 0) 45) (i + 1) i

@@ -81,7 +81,7 @@ pub fn point_end(s: &[u8], i: usize) -> usize
     i
 }
 
-fn sign_end(s: &[u8], i: usize) -> usize
+pub fn sign_end(s: &[u8], i: usize) -> usize
     requires { ⌜ i ≤ length (now s) ⌝ }
     ensures { λ r. ⌜ r ≡ signEnd (now (s .entry)) i ⌝ }
 {

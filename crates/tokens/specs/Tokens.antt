@@ -1,5 +1,5 @@
 -- The table word of a token, and the raw text.
-use mathlib.Core.Bool.{cond, _&&_}
+use mathlib.Core.Bool.{Bool, cond, _&&_}
 use mathlib.Core.List.{List}
 use Prim.Native.Nat.{ℕ, _+_, _-_, _*_, _/_, _%_}
 use lib.Dec.{leb}
@@ -27,9 +27,13 @@ wordOf t = kindNumber (t .kind) * 1099511627776 + t .span .start * 1048576 + t .
 unfoldable pub tokenOf : ℕ → Token
 tokenOf w = tokenIn (kindOf (w / 1099511627776)) (span (w / 1048576 % 1048576) (w % 1048576))
 
--- the bounds where they are in order and within a text of n bytes, else the empty part at byte 0
+-- whether bounds are in order and not past a text of n bytes
+abbrev pub isWithin : ℕ → Span → Bool
+isWithin n s = leb (s .start) (s .end) && leb (s .end) n
+
+-- such bounds, or else the empty part at byte 0
 unfoldable pub within : ℕ → Span → Span
-within n s = cond (leb (s .start) (s .end) && leb (s .end) n) s (span 0 0)
+within n s = cond (isWithin n s) s (span 0 0)
 
 -- the bytes of a text within bounds
 abbrev pub part : List ℕ → Span → List ℕ

@@ -4,7 +4,7 @@ use borrow.Author.Tests.{not-true, not-false}
 use mathlib.Core.Path.{sym, _∙_}
 use native.Mathlib.Omega.{arith}
 use lib.ListN.{length-take}
-use Rattle.keywords.proofs.Values as laws
+use Rattle.keywords.proofs.Prefixes as laws
 use Rattle.keywords.proofs.number_after.Statement.{statement}
 use Rattle.keywords.proofs.number_after.Tie as tie
 
@@ -19,8 +19,8 @@ no-prefix c =
 behind : tie.Need-returns-3
 behind c =
     let a = c .before .before .before .before .before .before .before .before .args in
-    laws.behind (a .prefix .now) (a .top) (a .w .now) (c .digits-up-to .result)
-    (sym (not-false _ (c .before .before .if2 .left)) ∙ c .before .before .before .same-word .ensures) (c .digits-up-to .ensures)
+    laws.behind (a .prefix .now) (a .top) (a .w .now) (c .parse-natural .result)
+    (sym (not-false _ (c .before .before .if2 .left)) ∙ c .before .before .before .same-word .ensures) (c .parse-natural .ensures)
 
 pub number-after-spec : {M : Type 1} → statement M
 number-after-spec =

@@ -3,7 +3,7 @@ use borrow.Author.Needs.{needs}
 use mathlib.Core.Path.{sym, _∙_}
 use native.Mathlib.Omega.{arith}
 use Rattle.words.specs.Spellings.{bytes}
-use Rattle.keywords.proofs.Values.{small}
+use Rattle.keywords.proofs.Prefixes.{small}
 use Rattle.keywords.proofs.WordKinds as laws
 use Rattle.keywords.proofs.word_kind.Statement.{statement}
 use Rattle.keywords.proofs.word_kind.Tie as tie
