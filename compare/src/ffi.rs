@@ -5,6 +5,7 @@ mod c {
         pub fn pcode_lex(text: *const u8, text_len: usize, table: *mut u64, table_len: usize, out: *mut u64) -> u64;
         pub fn pcode_token(word: u64, out: *mut u64);
         pub fn pcode_delta(action: usize, values: usize, name_is_empty: bool, out: *mut i32) -> u64;
+        pub fn pcode_value(text: *const u8, text_len: usize, kind: u64, start: usize, end: usize, integer: *mut i32, out: *mut u64) -> u64;
         pub fn pcode_raw_text(text: *const u8, text_len: usize, start: usize, end: usize, out: *mut u64);
     }
 }
@@ -39,6 +40,28 @@ pub fn delta(action: usize, values: usize, name_is_empty: bool) -> Result<i32, u
     let mut out = [0i32; 1];
     let number = unsafe { c::pcode_delta(action, values, name_is_empty, out.as_mut_ptr()) };
     if number == 0 { Ok(out[0]) } else { Err(number) }
+}
+
+/// A pushed value: the case in the order of `PushValue`, and what that case holds.
+#[derive(PartialEq, Eq, Debug)]
+pub struct Value {
+    pub case: u64,
+    pub integer: i32,
+    pub bits: u64,
+    pub bounds: (u64, u64),
+}
+
+/// The value of a token, or a refusal's number; a refusal that writes is a failure of its own.
+pub fn value(text: &[u8], kind: u64, start: u64, end: u64) -> Result<Value, u64> {
+    let (mut integer, mut out) = ([i32::MIN + 7; 1], [0xdead_beef_u64; 4]);
+    let before = (integer, out);
+    let (start, end) = (start as usize, end as usize);
+    let number = unsafe { c::pcode_value(text.as_ptr(), text.len(), kind, start, end, integer.as_mut_ptr(), out.as_mut_ptr()) };
+    if number != 0 {
+        assert_eq!((integer, out), before, "refusal {number} wrote");
+        return Err(number);
+    }
+    Ok(Value { case: out[0], integer: integer[0], bits: out[1], bounds: (out[2], out[3]) })
 }
 
 /// Lexing alone into a table that the caller lends: best and median of five rounds, as the oracle's --bench prints its own.

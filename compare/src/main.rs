@@ -5,12 +5,14 @@
 //!   compare ORACLE boundary                       the sizes around 65,536 bytes
 //!   compare ORACLE all COUNT SEED                 all of these
 //!   compare ORACLE deltas                         the delta of every action, with each kind of operands
+//!   compare ORACLE values LENGTH COUNT SEED       every value: all texts over numerals up to a length, listed literals, number texts
 //!   compare ORACLE sample FILE COUNT SEED         the oracle's answers in FILE1, FILE2, .. of 65,536 bytes, for crates/lex_replay
 //!   compare ordinary FILE SIZE SEED               an ordinary patch of about that many bytes
 //!   compare bench FILE SECONDS                    lexing speed on one text
 
 mod ffi;
 mod texts;
+mod values;
 
 use std::collections::BTreeMap;
 use std::io::Write;
@@ -267,6 +269,9 @@ fn main() {
             d
         }
         [oracle, "deltas"] => deltas(oracle),
+        [oracle, "values", length, count, seed] => {
+            values::numbers(oracle, length.parse().expect("a length"), count.parse().expect("a count"), seed.parse().expect("a seed"))
+        }
         [oracle, "sample", file, count, seed] => {
             sample(oracle, file, count.parse().expect("a count"), seed.parse().expect("a seed"));
             0

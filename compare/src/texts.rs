@@ -9,6 +9,7 @@ pub const ALPHABETS: [(&str, usize); 5] = [("numbers", 6), ("strings", 6), ("wor
 fn alphabet(name: &str) -> Vec<&'static [u8]> {
     let pieces: &[&[u8]] = match name {
         "numbers" => &[b"1", b"0", b"9", b".", b"-", b"+", b"e", b"E", b" ", b"\n"],
+        "numerals" => &[b"1", b"0", b"9", b".", b"-", b"+", b"e", b"E", b", ", b"nan"],
         "strings" => &[b"\"", b"\\", b"\n", b"\r", b"a", b" ", "é".as_bytes(), "€".as_bytes(), "😀".as_bytes()],
         "words" => &[b"a", b"Z", b"_", b"$", b"0", b"9", b" ", b":", b"-", b".", b"constant", b"register", b"push"],
         "newlines" => &[b"\n", b"\r", b" ", b"\t", b":", b",", b"{", b"}", b"x"],
@@ -113,6 +114,59 @@ fn number(r: &mut Random) -> Vec<u8> {
         }
     }
     s.into_bytes()
+}
+
+/// Number literals that a rule names, each with and without a minus.
+pub fn literals() -> Vec<Vec<u8>> {
+    let plain = "1. .5 1.e5 1e 1e+ 1e- 00012 0 0.0 0e0 0e99999999999999999999 0.000e-400 1e5 1E5 1e+5 1e-5 1.5e3 \
+        255 256 65535 65536 2147483646 2147483647 2147483648 2147483649 4294967295 4294967296 \
+        9007199254740991 9007199254740992 9007199254740993 9007199254740994 9007199254740991.0 9007199254740992.0 9007199254740992.5 \
+        90071992547409920e-1 9007199254740992e22 9007199254740992e23 9007199254740992e-22 9007199254740992e-23 9007199254740993e1 \
+        1e21 1e22 1e23 1e24 1e-21 1e-22 1e-23 0.1 0.2 0.3 0.0000000000000000000001 0.00000000000000000000001 1e00022 1e00023 \
+        123456789012345678 1234567890123456789012345 1.7976931348623157e308 4.9e-324 1e308 1e309 5e-324 \
+        infinity Infinity INFINITY infinit infinityy nan NaN NAN nann na true FALSE null Undefined register255 constant65535 \"ab\"";
+    plain.split_whitespace().flat_map(|l| [l.to_string(), format!("-{l}"), format!("{l}, {l}")]).map(String::into_bytes).collect()
+}
+
+/// Digits around the bounds, of every length to 25, with points, exponents and signs; whole numbers around each width; words.
+pub fn numbers(count: u64, seed: u64) -> impl Iterator<Item = Vec<u8>> {
+    let mut r = Random::new(seed);
+    (0..count).map(move |_| {
+        let digits = |r: &mut Random, n: usize| -> String { (0..n).map(|_| (b'0' + r.below(10) as u8) as char).collect() };
+        let mut s = match r.below(8) {
+            0 => (9_007_199_254_740_992 - 6 + r.below(13) as u64).to_string(),
+            1 => {
+                let n = 17 + r.below(9);
+                digits(&mut r, n)
+            }
+            2 => "0".repeat(1 + r.below(30)),
+            3 => {
+                let around = [128u64, 256, 32768, 65536, 2_147_483_648, 4_294_967_296, 1 << 52, 1 << 53];
+                (around[r.below(around.len())] - 3 + r.below(7) as u64).to_string()
+            }
+            4 => return word(&mut r),
+            5 => return number(&mut r),
+            _ => {
+                let n = 1 + r.below(17);
+                digits(&mut r, n)
+            }
+        };
+        if r.below(2) == 0 {
+            s.insert(r.below(s.len() + 1), '.');
+        }
+        if r.below(4) == 0 {
+            s = format!("{}{s}", "0".repeat(r.below(4)));
+        }
+        if r.below(3) != 0 {
+            let e = r.below(61) as i64 - 30;
+            let sign = if e >= 0 && r.below(2) == 0 { "+" } else { "" };
+            s = format!("{s}{}{sign}{e}", r.pick(&["e", "E"]));
+        }
+        if r.below(3) == 0 {
+            s.insert(0, '-');
+        }
+        s.into_bytes()
+    })
 }
 
 fn string(r: &mut Random) -> Vec<u8> {
