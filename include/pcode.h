@@ -7,8 +7,9 @@
  *   3  an opening quote directly before a line feed or the end; the place is the quote's byte
  *   4  an unclosed string whose last character is over one byte; the place is the quote's byte
  *   5  a token table with too few places; the place is the number of tokens
+ *   6  a token without a value
  *   9  an action whose delta is undetermined
- * A refusal changes no table.
+ * A refusal changes no table. Every call is proved to return and write what is told here.
  */
 #ifndef PCODE_H
 #define PCODE_H
@@ -33,5 +34,14 @@ void pcode_raw_text(const uint8_t *text, size_t text_len, size_t start, size_t e
  * ActionName (a number that no action has counts as 0); values: the value count of a Push; name_is_empty: whether the raw
  * name of a DefineFunction or DefineFunction2 is empty. Refusals 1 and 9, both at place 0, leave out[0] as it was. */
 uint64_t pcode_delta(size_t action, size_t values, bool name_is_empty, int32_t out[1]);
+
+/* The value of a token, given by the number of its kind (pcode_token's out[0]) and the bounds of its raw text.
+ * out[0]: the case, 0 null, 1 undefined, 2 string, 3 integer, 4 double, 5 true, 6 false, 7 register, 8 constant, 9 long (a
+ * number that is kept as it was typed). integer[0]: the number of an integer, a register or a constant, else 0. out[1]: the bits
+ * of a double, those of nan always 0x7FF8000000000000, else 0. out[2], out[3]: the bounds of the text of a string or a long,
+ * else 0. Refusals 1 and 6, both at place 0, leave integer and out as they were; 6 also for bounds that are out of order or past
+ * the text. */
+uint64_t pcode_value(const uint8_t *text, size_t text_len, uint64_t kind, size_t start, size_t end, int32_t integer[1],
+                     uint64_t out[4]);
 
 #endif

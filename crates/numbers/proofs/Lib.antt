@@ -1,2 +1,3 @@
 pub mod Integers
 pub mod Doubles
+pub mod Nearest
