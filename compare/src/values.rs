@@ -53,12 +53,16 @@ fn outside(literal: &str) -> bool {
     !digits.is_empty() && (large || (exponent - fraction).abs() > 22)
 }
 
-/// What our value call says of the tokens that are no action, comma or newline.
-fn ours(text: &[u8]) -> Option<Vec<Result<Value, u64>>> {
+/// The raw text of a token, and what our value call says of it.
+type Ours = (String, Result<Value, u64>);
+
+/// The tokens that are no action, comma or newline.
+fn ours(text: &[u8]) -> Option<Vec<Ours>> {
     let mut table = vec![0; text.len()];
     let n = ffi::lex(text, &mut table).ok()?;
-    let tokens = table[..n as usize].iter().map(|w| ffi::token(*w));
-    Some(tokens.filter(|t| ![0, 6, 9].contains(&(t.kind >> 16))).map(|t| ffi::value(text, t.kind, t.raw.0, t.raw.1)).collect())
+    let tokens = table[..n as usize].iter().map(|w| ffi::token(*w)).filter(|t| ![0, 6, 9].contains(&(t.kind >> 16)));
+    let raw = |(start, end): (u64, u64)| String::from_utf8_lossy(&text[start as usize..end as usize]).into_owned();
+    Some(tokens.map(|t| (raw(t.raw), ffi::value(text, t.kind, t.raw.0, t.raw.1))).collect())
 }
 
 #[derive(Default)]
@@ -80,7 +84,7 @@ impl Report {
             // one token between Push and the newline that the Rust refuses has no value; more are no list of values
             None if ours.len() == 1 && !text.contains(&b',') => {
                 self.without += 1;
-                ours[0] == Err(6)
+                ours[0].1 == Err(6)
             }
             None => {
                 self.no_list += 1;
@@ -98,16 +102,17 @@ impl Report {
         }
     }
 
-    fn agree(&mut self, text: &[u8], theirs: &str, ours: &Result<Value, u64>) -> bool {
+    fn agree(&mut self, text: &[u8], theirs: &str, (raw, ours): &Ours) -> bool {
         let Ok(v) = ours else { return false };
         let w = written(text, v);
         self.values += 1;
+        let numeric = raw.starts_with(|c: char| c == '-' || c.is_ascii_digit());
         match w.strip_prefix("Long ") {
             Some(literal) => {
                 self.long += 1;
-                theirs.starts_with("f:") && outside(literal)
+                theirs.starts_with("f:") && literal == raw && outside(raw)
             }
-            None => w == theirs,
+            None => w == theirs && !(v.case == 4 && numeric && outside(raw)),
         }
     }
 }

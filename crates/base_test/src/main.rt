@@ -1,34 +1,16 @@
 // Runs the leaves at their limits, a line for each case.
 use answers::Refusal;
-use libc::STDOUT_FILENO;
 use names::ActionName;
 use pcode::StackDelta;
+use printing::print_number;
+use printing::print_refusal;
+use printing::print_signed;
+use printing::print_span;
+use printing::print_text;
 use tokens::Span;
 use tokens::Token;
 use tokens::TokenKind;
 ghost use Prim.Native.Nat.{_≤_};
-
-fn print_text(text: &[u8]) {
-    io::write_all(STDOUT_FILENO, text);
-}
-
-fn print_number(n: u64) {
-    io::print_decimal(STDOUT_FILENO, n);
-}
-
-fn print_span(s: Span) {
-    print_text(b" ");
-    print_number(s.start as u64);
-    print_text(b"..");
-    print_number(s.end as u64);
-}
-
-fn print_refusal(r: Refusal) {
-    print_text(b"refused ");
-    print_number(answers::refusal_number(r));
-    print_text(b" at ");
-    print_number(answers::refusal_place(r) as u64);
-}
 
 // ---- numbers there and back
 
@@ -138,7 +120,9 @@ fn print_token(i: usize) {
     let raw = t.raw;
     print_text(b"token ");
     print_number(tokens::kind_number(kind));
+    print_text(b" ");
     print_span(span);
+    print_text(b" ");
     print_span(raw);
 }
 
@@ -181,7 +165,7 @@ fn print_raw(i: usize) {
         span: bounds,
         raw: bounds,
     };
-    print_text(b"raw");
+    print_text(b"raw ");
     print_span(bounds);
     print_text(b" [");
     print_text(tokens::raw_text(b"start: Add", token));
@@ -269,17 +253,6 @@ const GIVEN: [Given; 14] = [
     },
 ];
 
-fn print_known(d: i32) {
-    match d {
-        -1 => print_text(b"-1"),
-        0 => print_text(b"0"),
-        1 => print_text(b"1"),
-        65535 => print_text(b"65535"),
-        65536 => print_text(b"65536"),
-        _ => print_text(b"another number"),
-    }
-}
-
 fn print_delta(i: usize) {
     if 14 <= i {
         return;
@@ -294,7 +267,7 @@ fn print_delta(i: usize) {
     print_number(values as u64);
     print_text(b": ");
     match pcode::delta(action, values, name_is_empty) {
-        StackDelta::Is(d) => print_known(d),
+        StackDelta::Is(d) => print_signed(d),
         StackDelta::Refused(r) => print_refusal(r),
     }
 }

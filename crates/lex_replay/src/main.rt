@@ -3,7 +3,8 @@
 // where the Rust panics; the count of tokens or of valid bytes; for each token its kind's number, span and raw bounds.
 // Then comes the text.
 use lexer::Lexing;
-use libc::STDOUT_FILENO;
+use printing::print_number;
+use printing::print_text;
 ghost use Prim.Native.Nat.{_<_, _≤_};
 ghost use lib.ListN.{length};
 
@@ -151,16 +152,16 @@ fn entries_of(answer: u64, count: u64) -> usize {
 }
 
 fn print_verdict(texts: u64, good: u64) {
-    io::print_decimal(STDOUT_FILENO, texts);
-    io::write_all(STDOUT_FILENO, b" texts, ");
-    io::print_decimal(STDOUT_FILENO, good);
-    io::write_all(STDOUT_FILENO, b" as the Rust answered\n");
+    print_number(texts);
+    print_text(b" texts, ");
+    print_number(good);
+    print_text(b" as the Rust answered\n");
 }
 
 fn print_difference(text: u64) {
-    io::write_all(STDOUT_FILENO, b"text ");
-    io::print_decimal(STDOUT_FILENO, text);
-    io::write_all(STDOUT_FILENO, b" differs\n");
+    print_text(b"text ");
+    print_number(text);
+    print_text(b" differs\n");
 }
 
 // 1 for a text that is as the Rust answered; one that is not is printed.

@@ -14,27 +14,20 @@ use borrow.Author.Tests.{eq-eqb, ne-eqb, eqb-true, le-leb, lt-leb, lt-ltb, le-lt
 use Rattle.scanner.specs.Ends.{digitsEnd, pointEnd, signEnd}
 use Rattle.scanner.proofs.Runs.{inside}
 use Rattle.scanner.proofs.Ends.{Within, digits-within, point-within, sign-within}
-use Rattle.numbers.specs.Integers.{isMinus, hasMinus, isNatural, valueOf, upTo}
-use Rattle.numbers.specs.Doubles.{minusEnd, wholeEnd, mantissaEnd, fractionDigits, hasDigit, isE, isExponent, isNumber, w, exponent, exponentHasMinus, up, down, scaled, signed, isShort, doubleOf, double}
+use Rattle.numbers.specs.Integers.{isMinus, hasMinus, minusEnd, isNatural, valueOf, upTo}
+use Rattle.numbers.specs.Doubles.{wholeEnd, mantissaEnd, fractionDigits, hasDigit, isE, isExponent, isNumber, w, exponent, exponentHasMinus, up, down, scaled, signed, isShort, doubleOf, double}
 use Rattle.numbers.specs.declared.Natural.{Natural}
 use Rattle.numbers.specs.declared.Natural.the-variants as N
 use Rattle.numbers.specs.declared.Double.{Double}
 use Rattle.numbers.specs.declared.Double.the-variants as D
-use Rattle.numbers.proofs.Integers.{told, untold}
+use Rattle.numbers.proofs.Integers.{minus-within, told, untold}
 
 -- ---- the pattern
 
 module _ (s : List ℕ) where
-  minus-within : minusEnd s ≤ length s
-  minus-within = by (hasMinus s) refl
-    where
-      by : (t : Bool) → hasMinus s ≡ t → cond t 1 0 ≤ length s
-      by true e = omega (arith, inside s 0 (omega (arith, eqb-true (getD s 0 0) 45 e)))
-      by false e = omega arith
-
   pub whole-within : Within s (minusEnd s) (wholeEnd s)
   unfolding wholeEnd
-  whole-within = digits-within s (minusEnd s) minus-within
+  whole-within = digits-within s (minusEnd s) (minus-within s)
 
   pub mantissa-within : Within s (wholeEnd s) (mantissaEnd s)
   unfolding mantissaEnd

@@ -13,10 +13,11 @@ use lib.Signed.{mag}
 use mir.Syntax.{w32, w64}
 use mir.Val.{SFits, toZ, ofZ}
 use mir.ValLaws.{toZ-pos, toZ-ofZ}
-use borrow.Author.Tests.{le-leb, lt-leb, leb-true, leb-false, lt-ltb, le-ltb}
+use borrow.Author.Tests.{le-leb, lt-leb, leb-true, leb-false, lt-ltb, le-ltb, eqb-true}
 use Rattle.scanner.specs.Bytes.{isDigit}
 use Rattle.scanner.specs.Ends.{digitsEnd}
-use Rattle.numbers.specs.Integers.{withByte, valueFrom, valueOf, upTo, isNatural, natural, hasMinus, plus, minus, integer}
+use Rattle.scanner.proofs.Runs.{inside}
+use Rattle.numbers.specs.Integers.{withByte, valueFrom, valueOf, upTo, isNatural, natural, isMinus, hasMinus, minusEnd, largest, withSign, integer}
 use Rattle.numbers.specs.declared.Natural.{Natural}
 use Rattle.numbers.specs.declared.Natural.the-variants as N
 use Rattle.numbers.specs.declared.Integer.{Integer}
@@ -127,15 +128,24 @@ module _ (n : ℕ) (h : n ≤ 2147483648) where
   pub negated : toZ w32 (ofZ w32 (toZ w64 (ofZ w64 (pos 0 -ℤ toZ w64 n)))) ≡ negℤ (pos n)
   negated = toZ-ofZ w32 (toZ w64 (ofZ w64 (pos 0 -ℤ toZ w64 n))) neg-fits-32 ∙ neg-is
 
-module _ (s : List ℕ) (t : Bool) (at : t ≡ hasMinus s) where
-  pub with-minus : t ≡ true → (r : Integer) → r ≡ minus (natural 2147483648 (take (length s - 1) (drop 1 s))) → r ≡ integer s
-  unfolding integer
-  with-minus h r e =
-      e ∙ simp (← at, h, take-all (length s - 1) (drop 1 s) (omega (arith, length-drop 1 s)))
+module _ (s : List ℕ) where
+  pub minus-within : minusEnd s ≤ length s
+  minus-within = by (hasMinus s) refl
+    where
+      by : (t : Bool) → hasMinus s ≡ t → cond t 1 0 ≤ length s
+      by true e = omega (arith, inside s 0 (omega (arith, eqb-true (getD s 0 0) 45 e)))
+      by false e = omega arith
 
-  pub without-minus : t ≡ false → (r : Integer) → r ≡ plus (natural 2147483647 s) → r ≡ integer s
-  unfolding integer
-  without-minus h r e = e ∙ simp (← at, h)
+  module _ (m : ℕ) (em : m ≡ minusEnd s) (t : Bool) (et : t ≡ hasMinus s) (top : ℕ) (eo : top ≡ largest t) where
+    -- the digits behind the minus, up to the sign's largest
+    told-by : natural top (take (length s - m) (drop m s)) ≡ natural (largest (hasMinus s)) (drop (minusEnd s) s)
+    told-by =
+        ap (natural top) (take-all (length s - m) (drop m s) (omega (arith, length-drop m s)))
+        ∙ simp (eo, et, em)
+
+    pub signed-or-none : (x y : Natural) → x ≡ natural top (take (length s - m) (drop m s)) → x ≡ y → withSign t y ≡ integer s
+    unfolding integer
+    signed-or-none x y ex e = ap (withSign t) (sym e ∙ ex ∙ told-by) ∙ simp et
 
 module _ (s : List ℕ) where
   pub no-bytes : length s ≡ 0 → false ≡ isNatural s
@@ -145,3 +155,7 @@ module _ (s : List ℕ) where
   pub all-digits : 0 < length s → (e : ℕ) → e ≡ digitsEnd s 0 → eqb e (length s) ≡ isNatural s
   unfolding isNatural
   all-digits h e p = simp (lt-ltb 0 (length s) h, p)
+
+pub largest-small : (t : Bool) → largest t ≤ 2147483648
+largest-small true = omega arith
+largest-small false = omega arith

@@ -7,14 +7,11 @@ use lib.IntN.{pos}
 use lib.Ieee.{Float, fin, binary64, ofInt, mul, div, neg}
 use lib.ListN.{length, take, drop, getD}
 use Rattle.scanner.specs.Ends.{digitsEnd, pointEnd, signEnd}
-use Rattle.numbers.specs.Integers.{isMinus, hasMinus, isNatural, valueOf}
+use Rattle.numbers.specs.Integers.{isMinus, hasMinus, minusEnd, isNatural, valueOf}
 use Rattle.numbers.specs.declared.Double.{Double}
 use Rattle.numbers.specs.declared.Double.the-variants as D
 
 -- ---- the pattern: optional `-`, digits, optional `.` with digits, optional `e` or `E` with optional sign and digits
-
-abbrev pub minusEnd : List ℕ → ℕ
-minusEnd s = cond (hasMinus s) 1 0
 
 -- where the digits before the point end
 unfoldable pub wholeEnd : List ℕ → ℕ

@@ -1,9 +1,9 @@
 -- Whole numbers as Rust parses them: u8, u16 and i32, within document 01's number pattern, which has no plus.
-use mathlib.Core.Bool.{Bool, cond, _&&_}
+use mathlib.Core.Bool.{Bool, true, false, cond, _&&_}
 use mathlib.Core.List.{List, [], _∷_}
 use Prim.Native.Nat.{ℕ, _+_, _*_, _-_}
 use lib.Dec.{eqb, leb, ltb}
-use lib.IntN.{pos, negℤ}
+use lib.IntN.{ℤ, pos, negℤ}
 use lib.ListN.{length, drop, getD}
 use Rattle.scanner.specs.Bytes.{isDigit}
 use Rattle.scanner.specs.Ends.{digitsEnd}
@@ -41,14 +41,23 @@ isMinus b = eqb b 45
 abbrev pub hasMinus : List ℕ → Bool
 hasMinus s = isMinus (getD s 0 0)
 
-abbrev pub plus : Natural → Integer
-plus (N.Is n) = I.Is (pos n)
-plus N.Nothing = I.Nothing
+-- where the digits behind an optional `-` start
+abbrev pub minusEnd : List ℕ → ℕ
+minusEnd s = cond (hasMinus s) 1 0
 
-abbrev pub minus : Natural → Integer
-minus (N.Is n) = I.Is (negℤ (pos n))
-minus N.Nothing = I.Nothing
+-- the largest size of an i32, with a minus and without
+abbrev pub largest : Bool → ℕ
+largest true = 2147483648
+largest false = 2147483647
+
+abbrev pub signedNumber : Bool → ℕ → ℤ
+signedNumber true n = negℤ (pos n)
+signedNumber false n = pos n
+
+abbrev pub withSign : Bool → Natural → Integer
+withSign negative (N.Is n) = I.Is (signedNumber negative n)
+withSign negative N.Nothing = I.Nothing
 
 -- an i32
 unfoldable pub integer : List ℕ → Integer
-integer s = cond (hasMinus s) (minus (natural 2147483648 (drop 1 s))) (plus (natural 2147483647 s))
+integer s = withSign (hasMinus s) (natural (largest (hasMinus s)) (drop (minusEnd s) s))

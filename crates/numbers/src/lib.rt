@@ -4,8 +4,8 @@ ghost use Prim.Native.Nat.{_+_, _≤_, _<_};
 ghost use lib.IntN.{pos};
 ghost use lib.Ieee.{fin};
 ghost use lib.ListN.{length, getD};
-ghost use Rattle.numbers.specs.Integers.{withByte, valueOf, upTo, isNatural, natural, isMinus, hasMinus, plus, minus, integer};
-ghost use Rattle.numbers.specs.Doubles.{minusEnd, wholeEnd, mantissaEnd, fractionDigits, hasDigit, isE, isExponent, isNumber, ten, scaled, signed, exponent, up, down, doubleOf, double};
+ghost use Rattle.numbers.specs.Integers.{withByte, valueOf, upTo, isNatural, natural, isMinus, hasMinus, minusEnd, largest, signedNumber, integer};
+ghost use Rattle.numbers.specs.Doubles.{wholeEnd, mantissaEnd, fractionDigits, hasDigit, isE, isExponent, isNumber, ten, scaled, signed, exponent, up, down, doubleOf, double};
 
 // A number without a sign, or none.
 pub enum Natural {
@@ -80,32 +80,45 @@ fn has_minus(s: &[u8], i: usize) -> bool
     scanner::byte_at(s, i) == b'-'
 }
 
-fn minus(s: &[u8]) -> Integer
-    ensures { λ r. ⌜ r ≡ minus (natural 2147483648 (now (s .entry))) ⌝ }
+// Where the digits behind an optional minus start.
+fn minus_end(s: &[u8]) -> usize
+    ensures { λ r. ⌜ r ≡ minusEnd (now (s .entry)) ⌝ }
 {
-    let Natural::Is(n) = parse_natural(2147483648, s) else {
-        return Integer::Nothing;
-    };
-    Integer::Is((-(n as i64)) as i32)
+    if has_minus(s, 0) {
+        return 1;
+    }
+    0
 }
 
-fn plus(s: &[u8]) -> Integer
-    ensures { λ r. ⌜ r ≡ plus (natural 2147483647 (now (s .entry))) ⌝ }
+fn largest(negative: bool) -> u64
+    ensures { λ r. ⌜ r ≡ largest «negative» ⌝ }
 {
-    let Natural::Is(n) = parse_natural(2147483647, s) else {
-        return Integer::Nothing;
-    };
-    Integer::Is(n as i32)
+    if negative {
+        return 2147483648;
+    }
+    2147483647
+}
+
+fn signed_number(negative: bool, n: u64) -> i32
+    requires { ⌜ n ≤ largest «negative» ⌝ }
+    ensures { λ r. ⌜ r ≡ signedNumber «negative» n ⌝ }
+{
+    if negative {
+        return (-(n as i64)) as i32;
+    }
+    n as i32
 }
 
 // An i32, with an optional minus.
 pub fn parse_integer(s: &[u8]) -> Integer
     ensures { λ r. ⌜ r ≡ integer (now (s .entry)) ⌝ }
 {
-    if has_minus(s, 0) {
-        return minus(&s[1..]);
-    }
-    plus(s)
+    let negative = has_minus(s, 0);
+    let digits = minus_end(s);
+    let Natural::Is(n) = parse_natural(largest(negative), &s[digits..]) else {
+        return Integer::Nothing;
+    };
+    Integer::Is(signed_number(negative, n))
 }
 
 const TENS: [f64; 23] = [
@@ -133,15 +146,6 @@ const TENS: [f64; 23] = [
     1e21,
     1e22,
 ];
-
-fn minus_end(s: &[u8]) -> usize
-    ensures { λ r. ⌜ r ≡ minusEnd (now (s .entry)) ⌝ }
-{
-    if has_minus(s, 0) {
-        return 1;
-    }
-    0
-}
 
 // Where the digits before the point end.
 fn whole_end(s: &[u8]) -> usize

@@ -9,6 +9,7 @@ use Rattle.tokens.specs.declared.Token.{Token}
 use Rattle.tokens.specs.Kinds.{kindNumber, kindOf}
 use Rattle.tokens.specs.Tokens.{span}
 use Rattle.values.specs.Values.{bitsOf, valueAnswer}
+use Rattle.pcode_c.specs.declared.ValueFields.{ValueFields}
 use Rattle.values.specs.declared.PushValue.{PushValue}
 use Rattle.values.specs.declared.PushValue.the-variants as P
 
@@ -36,64 +37,33 @@ deltaAfter (refused n p) old = old
 
 -- ---- the value call
 
--- the case, in the order of `PushValue`
-abbrev pub caseOf : PushValue → ℕ
-caseOf P.Null = 0
-caseOf P.Undefined = 1
-caseOf (P.String s) = 2
-caseOf (P.Integer n) = 3
-caseOf (P.Float x) = 4
-caseOf P.True = 5
-caseOf P.False = 6
-caseOf (P.Register n) = 7
-caseOf (P.Constant n) = 8
-caseOf (P.Long s) = 9
+-- what C is told of a value: its case, and the number, the double's bits or the bounds that the case holds, else 0
+abbrev pub valueWith : ℕ → ℤ → ℕ → Span → ValueFields
+valueWith t n b s = record { tag = t; integer = n; bits = b; text = s }
 
-abbrev pub integerOf : PushValue → ℤ
-integerOf P.Null = pos 0
-integerOf P.Undefined = pos 0
-integerOf (P.String s) = pos 0
-integerOf (P.Integer n) = n
-integerOf (P.Float x) = pos 0
-integerOf P.True = pos 0
-integerOf P.False = pos 0
-integerOf (P.Register n) = pos n
-integerOf (P.Constant n) = pos n
-integerOf (P.Long s) = pos 0
-
-abbrev pub doubleBits : PushValue → ℕ
-doubleBits P.Null = 0
-doubleBits P.Undefined = 0
-doubleBits (P.String s) = 0
-doubleBits (P.Integer n) = 0
-doubleBits (P.Float x) = bitsOf x
-doubleBits P.True = 0
-doubleBits P.False = 0
-doubleBits (P.Register n) = 0
-doubleBits (P.Constant n) = 0
-doubleBits (P.Long s) = 0
-
-abbrev pub textBounds : PushValue → Span
-textBounds P.Null = span 0 0
-textBounds P.Undefined = span 0 0
-textBounds (P.String s) = s
-textBounds (P.Integer n) = span 0 0
-textBounds (P.Float x) = span 0 0
-textBounds P.True = span 0 0
-textBounds P.False = span 0 0
-textBounds (P.Register n) = span 0 0
-textBounds (P.Constant n) = span 0 0
-textBounds (P.Long s) = s
+-- the cases in the order of `PushValue`
+abbrev pub fieldsOf : PushValue → ValueFields
+fieldsOf P.Null = valueWith 0 (pos 0) 0 (span 0 0)
+fieldsOf P.Undefined = valueWith 1 (pos 0) 0 (span 0 0)
+fieldsOf (P.String s) = valueWith 2 (pos 0) 0 s
+fieldsOf (P.Integer n) = valueWith 3 n 0 (span 0 0)
+fieldsOf (P.Float x) = valueWith 4 (pos 0) (bitsOf x) (span 0 0)
+fieldsOf P.True = valueWith 5 (pos 0) 0 (span 0 0)
+fieldsOf P.False = valueWith 6 (pos 0) 0 (span 0 0)
+fieldsOf (P.Register n) = valueWith 7 (pos n) 0 (span 0 0)
+fieldsOf (P.Constant n) = valueWith 8 (pos n) 0 (span 0 0)
+fieldsOf (P.Long s) = valueWith 9 (pos 0) 0 s
 
 -- the token of a kind's number with those raw bounds
 abbrev pub tokenWith : ℕ → ℕ → ℕ → Token
 tokenWith kind start end = record { kind = kindOf kind; span = span start end; raw = span start end }
 
 abbrev pub integerAfter : Answer PushValue → List ℤ → List ℤ
-integerAfter (accepted v) old = set old 0 (integerOf v)
+integerAfter (accepted v) old = set old 0 (fieldsOf v .integer)
 integerAfter (refused n p) old = old
 
 abbrev pub outAfter : Answer PushValue → List ℕ → List ℕ
 outAfter (accepted v) old =
-    set (set (set (set old 0 (caseOf v)) 1 (doubleBits v)) 2 (textBounds v .start)) 3 (textBounds v .end)
+    let f = fieldsOf v in
+    set (set (set (set old 0 (f .tag)) 1 (f .bits)) 2 (f .text .start)) 3 (f .text .end)
 outAfter (refused n p) old = old

@@ -15,7 +15,7 @@ ghost use Rattle.tokens.specs.Tokens.{span, tokenOf, within};
 ghost use Rattle.lexer.specs.Lexing.{counted, lexText, tableAfter};
 ghost use Rattle.pcode.specs.Deltas.{deltaAnswer};
 ghost use Rattle.values.specs.Values.{valueAnswer};
-ghost use Rattle.pcode_c.specs.Boundary.{returned, told, tokenAfter, boundsAfter, deltaAfter, caseOf, integerOf, doubleBits, textBounds, tokenWith, integerAfter, outAfter};
+ghost use Rattle.pcode_c.specs.Boundary.{returned, told, tokenAfter, boundsAfter, deltaAfter, valueWith, fieldsOf, tokenWith, integerAfter, outAfter};
 
 fn refused(r: Refusal, out: &mut [u64; 1]) -> u64
     ensures { λ n. ⌜ n ≡ numberOf r ⌝ }
@@ -83,71 +83,40 @@ pub extern "C" fn pcode_delta(
     }
 }
 
-fn value_case(v: PushValue) -> u64
-    ensures { λ r. ⌜ r ≡ caseOf v ⌝ }
+// What C is told of a value: its case, and the number, the double's bits or the bounds that the case holds, else 0.
+pub struct ValueFields {
+    pub tag: u64,
+    pub integer: i32,
+    pub bits: u64,
+    pub text: Span,
+}
+
+fn value_with(tag: u64, integer: i32, bits: u64, text: Span) -> ValueFields
+    ensures { λ r. ⌜ r ≡ valueWith tag integer bits text ⌝ }
 {
-    match v {
-        PushValue::Null => 0,
-        PushValue::Undefined => 1,
-        PushValue::String(_) => 2,
-        PushValue::Integer(_) => 3,
-        PushValue::Float(_) => 4,
-        PushValue::True => 5,
-        PushValue::False => 6,
-        PushValue::Register(_) => 7,
-        PushValue::Constant(_) => 8,
-        PushValue::Long(_) => 9,
+    ValueFields {
+        tag,
+        integer,
+        bits,
+        text,
     }
 }
 
-fn value_integer(v: PushValue) -> i32
-    ensures { λ r. ⌜ r ≡ integerOf v ⌝ }
+fn fields_of(v: PushValue) -> ValueFields
+    ensures { λ r. ⌜ r ≡ fieldsOf v ⌝ }
 {
+    let nothing = Span { start: 0, end: 0 };
     match v {
-        PushValue::Null => 0,
-        PushValue::Undefined => 0,
-        PushValue::String(_) => 0,
-        PushValue::Integer(n) => n,
-        PushValue::Float(_) => 0,
-        PushValue::True => 0,
-        PushValue::False => 0,
-        PushValue::Register(n) => n as i32,
-        PushValue::Constant(n) => n as i32,
-        PushValue::Long(_) => 0,
-    }
-}
-
-fn value_bits(v: PushValue) -> u64
-    ensures { λ r. ⌜ r ≡ doubleBits v ⌝ }
-{
-    match v {
-        PushValue::Null => 0,
-        PushValue::Undefined => 0,
-        PushValue::String(_) => 0,
-        PushValue::Integer(_) => 0,
-        PushValue::Float(x) => values::bits_of(x),
-        PushValue::True => 0,
-        PushValue::False => 0,
-        PushValue::Register(_) => 0,
-        PushValue::Constant(_) => 0,
-        PushValue::Long(_) => 0,
-    }
-}
-
-fn value_bounds(v: PushValue) -> Span
-    ensures { λ r. ⌜ r ≡ textBounds v ⌝ }
-{
-    match v {
-        PushValue::Null => Span { start: 0, end: 0 },
-        PushValue::Undefined => Span { start: 0, end: 0 },
-        PushValue::String(s) => s,
-        PushValue::Integer(_) => Span { start: 0, end: 0 },
-        PushValue::Float(_) => Span { start: 0, end: 0 },
-        PushValue::True => Span { start: 0, end: 0 },
-        PushValue::False => Span { start: 0, end: 0 },
-        PushValue::Register(_) => Span { start: 0, end: 0 },
-        PushValue::Constant(_) => Span { start: 0, end: 0 },
-        PushValue::Long(s) => s,
+        PushValue::Null => value_with(0, 0, 0, nothing),
+        PushValue::Undefined => value_with(1, 0, 0, nothing),
+        PushValue::String(s) => value_with(2, 0, 0, s),
+        PushValue::Integer(n) => value_with(3, n, 0, nothing),
+        PushValue::Float(x) => value_with(4, 0, values::bits_of(x), nothing),
+        PushValue::True => value_with(5, 0, 0, nothing),
+        PushValue::False => value_with(6, 0, 0, nothing),
+        PushValue::Register(n) => value_with(7, n as i32, 0, nothing),
+        PushValue::Constant(n) => value_with(8, n as i32, 0, nothing),
+        PushValue::Long(s) => value_with(9, 0, 0, s),
     }
 }
 
@@ -172,10 +141,12 @@ pub extern "C" fn pcode_value(
     };
     match values::value(text, token) {
         TokenValue::Is(v) => {
-            let bounds = value_bounds(v);
-            integer[0] = value_integer(v);
-            out[0] = value_case(v);
-            out[1] = value_bits(v);
+            let fields = fields_of(v);
+            let bounds = fields.text;
+            let number = fields.integer;
+            integer[0] = number;
+            out[0] = fields.tag;
+            out[1] = fields.bits;
             out[2] = bounds.start as u64;
             out[3] = bounds.end as u64;
             0

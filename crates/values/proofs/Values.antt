@@ -1,12 +1,10 @@
 -- Values by what was looked up. Assumes nothing.
-use mathlib.Core.Path.{_≡_, refl, sym, ap, subst, _∙_}
-use mathlib.Core.Bool.{Bool, true, false, cond, _&&_, _||_, and-false}
-use mathlib.Core.Logic.{inl, inr}
+use mathlib.Core.Path.{_≡_, refl, sym, ap, _∙_}
+use mathlib.Core.Bool.{Bool, true, false, and-false}
 use mathlib.Core.List.{List, [], _∷_}
-use mathlib.Core.Option.{Option, none, some}
 use Prim.Native.Nat.{ℕ, _≤_, _<_}
 use denote.Enum.Declared.{tagOf}
-use lib.Dec.{T, eqb, eqb-refl}
+use lib.Dec.{T}
 use lib.Ieee.{nan, inf}
 use lib.ListN.{length}
 use mir.Val.{hasKey}
@@ -19,19 +17,17 @@ use Rattle.tokens.specs.declared.TokenKind.the-variants as K
 use Rattle.tokens.specs.declared.Span.{Span}
 use Rattle.tokens.specs.declared.Token.{Token}
 use Rattle.tokens.specs.Kinds.{isKind}
+use Rattle.tokens.proofs.Arms.{key-there}
 use Rattle.tokens.specs.Tokens.{part, rawText}
 use Rattle.words.specs.Spellings.{bytes}
 use Rattle.words.specs.Words.{sameWord}
-use Rattle.numbers.specs.Integers.{natural, integer}
+use Rattle.numbers.specs.Integers.{integer}
 use Rattle.numbers.specs.Doubles.{double}
-use Rattle.numbers.specs.declared.Natural.{Natural}
-use Rattle.numbers.specs.declared.Natural.the-variants as N
 use Rattle.numbers.specs.declared.Integer.{Integer}
-use Rattle.numbers.specs.declared.Integer.the-variants as I
 use Rattle.numbers.specs.declared.Double.{Double}
 use Rattle.values.specs.declared.PushValue.{PushValue}
 use Rattle.values.specs.declared.PushValue.the-variants as P
-use Rattle.values.specs.Values.{wordValue, doubleOrLong, floatValue, integerOr, integerValue, pushValue, orSix, valueAnswer, unsignedOf, i32Of}
+use Rattle.values.specs.Values.{wordValue, doubleOrLong, floatValue, integerOr, integerValue, pushValue, orSix, valueAnswer, integerText}
 
 module _ (s : List ℕ) (t : Bool) (et : t ≡ sameWord s (bytes "infinity")) where
   pub is-infinity : t ≡ true → accepted (P.Float (inf false)) ≡ orSix (wordValue s)
@@ -76,38 +72,15 @@ module _ (text : List ℕ) (t : Token) where
     inside f g r e = e ∙ simp (le-ltb 65536 (length text) h, le-leb (t .raw .start) (t .raw .end) f, le-leb (t .raw .end) (length text) g)
 
   module _ (b : Bool) (eb : b ≡ isKind (t .kind) K.Integer) where
-    pub no-unsigned : (top : ℕ) → b ≡ false → N.Nothing ≡ unsignedOf top text t
-    unfolding unsignedOf
-    no-unsigned top h = simp (← eb, h)
+    pub no-text : b ≡ false → [] ≡ integerText text t
+    unfolding integerText
+    no-text h = simp (← eb, h)
 
-    pub unsigned : (top : ℕ) → b ≡ true → (r : Natural) → r ≡ natural top (rawText text t) → r ≡ unsignedOf top text t
-    unfolding unsignedOf
-    unsigned top h r e = e ∙ simp (← eb, h)
+    pub its-text : b ≡ true → rawText text t ≡ integerText text t
+    unfolding integerText
+    its-text h = simp (← eb, h)
 
-    pub no-i32 : b ≡ false → I.Nothing ≡ i32Of text t
-    unfolding i32Of
-    no-i32 h = simp (← eb, h)
-
-    pub an-i32 : b ≡ true → (r : Integer) → r ≡ integer (rawText text t) → r ≡ i32Of text t
-    unfolding i32Of
-    an-i32 h r e = e ∙ simp (← eb, h)
-
--- ---- the arms of the other kinds
-
-or-left : (a b : Bool) → T a → T (a || b)
-or-left true b h = tt
-or-left false b h = absurd h
-
-or-right : (a b : Bool) → T b → T (a || b)
-or-right true b h = tt
-or-right false b h = h
-
--- a key of an arm is found among its keys
-key-there : (ks : List ℕ) (x : ℕ) → OneOf ks x → T (hasKey ks x)
-key-there [] x h = absurd h
-key-there (k ∷ []) x h = subst (λ (y : ℕ). T (hasKey (k ∷ []) y)) (sym h) (or-left (eqb k k) _ (eqb-refl k))
-key-there (k ∷ j ∷ ks) x (inl h) = subst (λ (y : ℕ). T (hasKey (k ∷ j ∷ ks) y)) (sym h) (or-left (eqb k k) _ (eqb-refl k))
-key-there (k ∷ j ∷ ks) x (inr h) = or-right (eqb k x) _ (key-there (j ∷ ks) x h)
+-- ---- the arm of the other kinds
 
 -- the places in `TokenKind` of the kinds without a value
 abbrev pub others : List ℕ
@@ -134,33 +107,6 @@ no-value k s raw h = by k (key-there others (tagOf the-type k) h)
     by K.False h = absurd h
     by K.Null h = absurd h
     by K.Undefined h = absurd h
-    by K.Catch h = refl
-    by K.Finally h = refl
-    by K.Unknown h = refl
-
-abbrev pub notInteger : List ℕ
-notInteger = 0 ∷ 1 ∷ 2 ∷ 4 ∷ 5 ∷ 6 ∷ 7 ∷ 8 ∷ 9 ∷ 10 ∷ 11 ∷ 12 ∷ 13 ∷ 14 ∷ 15 ∷ 16 ∷ 17 ∷ 18 ∷ []
-
-pub no-integer : (k : TokenKind) → OneOf notInteger (tagOf the-type k) → false ≡ isKind k K.Integer
-no-integer k h = by k (key-there notInteger (tagOf the-type k) h)
-  where
-    by : (k : TokenKind) → T (hasKey notInteger (tagOf the-type k)) → false ≡ isKind k K.Integer
-    by K.Newline h = refl
-    by K.String h = refl
-    by K.Float h = refl
-    by K.Integer h = absurd h
-    by (K.Register n) h = refl
-    by (K.Constant n) h = refl
-    by (K.ActionName a) h = refl
-    by K.Identifier h = refl
-    by K.Colon h = refl
-    by K.Comma h = refl
-    by K.OpenBrace h = refl
-    by K.CloseBrace h = refl
-    by K.True h = refl
-    by K.False h = refl
-    by K.Null h = refl
-    by K.Undefined h = refl
     by K.Catch h = refl
     by K.Finally h = refl
     by K.Unknown h = refl

@@ -1,6 +1,6 @@
 -- What a token is worth: document 01, 'Values and deltas'.
 use mathlib.Core.Bool.{false, cond}
-use mathlib.Core.List.{List}
+use mathlib.Core.List.{List, []}
 use mathlib.Core.Option.{Option, none, some}
 use Prim.Native.Nat.{ℕ}
 use lib.Dec.{ltb}
@@ -18,7 +18,6 @@ use Rattle.words.specs.Words.{sameWord}
 use Rattle.numbers.specs.Integers.{natural, integer}
 use Rattle.numbers.specs.Doubles.{double}
 use Rattle.numbers.specs.declared.Natural.{Natural}
-use Rattle.numbers.specs.declared.Natural.the-variants as N
 use Rattle.numbers.specs.declared.Integer.{Integer}
 use Rattle.numbers.specs.declared.Integer.the-variants as I
 use Rattle.numbers.specs.declared.Double.{Double}
@@ -94,11 +93,17 @@ answer (T.Refused r) = refusal r
 abbrev pub bitsOf : Float → ℕ
 bitsOf x = toBits binary64 x
 
--- ---- u8, u16 and i32: Integer tokens that Rust parses
+-- ---- u8, u16 and i32
 
--- up to the width's largest number: 255 for a u8, 65,535 for a u16
-unfoldable pub unsignedOf : ℕ → List ℕ → Token → Natural
-unsignedOf top text t = cond (isKind (t .kind) K.Integer) (natural top (rawText text t)) N.Nothing
+-- what a whole number is parsed from: of an Integer token its raw text, of any other token nothing
+unfoldable pub integerText : List ℕ → Token → List ℕ
+integerText text t = cond (isKind (t .kind) K.Integer) (rawText text t) []
 
-unfoldable pub i32Of : List ℕ → Token → Integer
-i32Of text t = cond (isKind (t .kind) K.Integer) (integer (rawText text t)) I.Nothing
+abbrev pub u8Of : List ℕ → Token → Natural
+u8Of text t = natural 255 (integerText text t)
+
+abbrev pub u16Of : List ℕ → Token → Natural
+u16Of text t = natural 65535 (integerText text t)
+
+abbrev pub i32Of : List ℕ → Token → Integer
+i32Of text t = integer (integerText text t)

@@ -13,7 +13,8 @@ ghost use lib.Ieee.{nan, inf};
 ghost use lib.ListN.{length};
 ghost use Rattle.tokens.specs.declared.TokenKind.the-variants as K;
 ghost use Rattle.tokens.specs.Kinds.{isKind};
-ghost use Rattle.values.specs.Values.{wordValue, floatValue, integerValue, pushValue, orSix, valueAnswer, answer, bitsOf, unsignedOf, i32Of};
+ghost use Rattle.numbers.specs.Integers.{natural};
+ghost use Rattle.values.specs.Values.{wordValue, floatValue, integerValue, pushValue, orSix, valueAnswer, answer, bitsOf, integerText, u8Of, u16Of, i32Of};
 
 // The nine of the Rust's `PushValue`, and Long: a number that has no double by one rounded operation, as it was typed.
 // String and Long hold the bounds of the raw text.
@@ -141,27 +142,35 @@ fn is_integer(kind: TokenKind) -> bool
     }
 }
 
-fn unsigned_of(top: u64, text: &[u8], token: Token) -> Natural
-    requires { ⌜ top ≤ 65535 ⌝ }
-    ensures { λ r. ⌜ r ≡ unsignedOf top (now (text .entry)) token ⌝ }
+// What a whole number is parsed from: of an Integer token its raw text, of any other token nothing.
+fn integer_text(text: &[u8], token: Token) -> &[u8]
+    ensures { λ r. ⌜ now r ≡ integerText (now (text .entry)) token ⌝ }
 {
     let kind = token.kind;
     if !is_integer(kind) {
-        return Natural::Nothing;
+        return &text[..0];
     }
-    numbers::parse_natural(top, tokens::raw_text(text, token))
+    tokens::raw_text(text, token)
+}
+
+// The number without a sign that a token writes, if it is at most `top`.
+fn unsigned_of(top: u64, text: &[u8], token: Token) -> Natural
+    requires { ⌜ top ≤ 65535 ⌝ }
+    ensures { λ r. ⌜ r ≡ natural top (integerText (now (text .entry)) token) ⌝ }
+{
+    numbers::parse_natural(top, integer_text(text, token))
 }
 
 // The u8 that a token writes.
 pub fn u8_of(text: &[u8], token: Token) -> Natural
-    ensures { λ r. ⌜ r ≡ unsignedOf 255 (now (text .entry)) token ⌝ }
+    ensures { λ r. ⌜ r ≡ u8Of (now (text .entry)) token ⌝ }
 {
     unsigned_of(255, text, token)
 }
 
 // The u16 that a token writes.
 pub fn u16_of(text: &[u8], token: Token) -> Natural
-    ensures { λ r. ⌜ r ≡ unsignedOf 65535 (now (text .entry)) token ⌝ }
+    ensures { λ r. ⌜ r ≡ u16Of (now (text .entry)) token ⌝ }
 {
     unsigned_of(65535, text, token)
 }
@@ -170,9 +179,5 @@ pub fn u16_of(text: &[u8], token: Token) -> Natural
 pub fn i32_of(text: &[u8], token: Token) -> Integer
     ensures { λ r. ⌜ r ≡ i32Of (now (text .entry)) token ⌝ }
 {
-    let kind = token.kind;
-    if !is_integer(kind) {
-        return Integer::Nothing;
-    }
-    numbers::parse_integer(tokens::raw_text(text, token))
+    numbers::parse_integer(integer_text(text, token))
 }

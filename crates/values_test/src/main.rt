@@ -1,51 +1,20 @@
 // Values at their limits. First the texts on standard input, a line for each token with its value, and of an Integer token
 // its u8, u16 and i32; then tokens that no text yields, and texts of 65,536 and 65,537 bytes.
-use answers::Refusal;
 use lexer::Lexing;
 use libc::STDIN_FILENO;
-use libc::STDOUT_FILENO;
 use numbers::Integer;
 use numbers::Natural;
+use printing::print_bits;
+use printing::print_number;
+use printing::print_refusal;
+use printing::print_signed;
+use printing::print_span;
+use printing::print_text;
 use tokens::Span;
 use tokens::Token;
 use tokens::TokenKind;
 use values::PushValue;
 use values::TokenValue;
-
-fn print_text(text: &[u8]) {
-    io::write_all(STDOUT_FILENO, text);
-}
-
-fn print_number(n: u64) {
-    io::print_decimal(STDOUT_FILENO, n);
-}
-
-fn print_signed(n: i32) {
-    if n < 0 {
-        print_text(b"-");
-        print_number((-(n as i64)) as u64);
-        return;
-    }
-    print_number(n as u64);
-}
-
-// A double's bits, 16 hexadecimal digits.
-fn print_bits(bits: u64) {
-    io::print_hex(STDOUT_FILENO, bits, 16);
-}
-
-fn print_refusal(r: Refusal) {
-    print_text(b"refused ");
-    print_number(answers::refusal_number(r));
-    print_text(b" at ");
-    print_number(answers::refusal_place(r) as u64);
-}
-
-fn print_span(s: Span) {
-    print_number(s.start as u64);
-    print_text(b"..");
-    print_number(s.end as u64);
-}
 
 fn print_case(v: PushValue) {
     match v {

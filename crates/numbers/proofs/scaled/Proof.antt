@@ -1,9 +1,7 @@
 -- `numbers::scaled` meets its contract. Assumes nothing.
 use borrow.Author.Needs.{needs}
-use mathlib.Core.Path.{_≡_, sym, ap, _∙_}
-use native.Mathlib.Omega.{arith}
-use lib.Dec.{le→leb}
-use lib.Ieee as Ieee
+use Prim.Native.Nat.{ℕ, _≤_}
+use lib.Dec.{T, le→leb}
 use lib.Ieee.{inFloat, binary64}
 use lib.IntN.{pos}
 use borrow.Author.Tests.{le-leb, lt-leb}
@@ -11,13 +9,9 @@ use Rattle.numbers.specs.Doubles.{scaled}
 use Rattle.numbers.proofs.scaled.Statement.{statement}
 use Rattle.numbers.proofs.scaled.Tie as tie
 
-exact : tie.Need-int-to-float-result
+exact : (n : ℕ) → n ≤ 9007199254740992 → T (inFloat binary64 (pos n))
 unfolding inFloat
-exact c = le→leb (c .before .before .args .n) 9007199254740992 (c .before .before .pre .0)
-
-exact-2 : tie.Need-int-to-float-result-2
-unfolding inFloat
-exact-2 c = le→leb (c .before .before .args .n) 9007199254740992 (c .before .before .pre .0)
+exact n h = le→leb n 9007199254740992 h
 
 times : tie.Need-returns
 unfolding scaled
@@ -35,10 +29,10 @@ pub scaled-spec : {M : Type 1} → statement M
 scaled-spec =
     tie.close
     (tie.spec
-    exact
+    (λ c. exact _ (c .before .before .pre .0))
     (λ c κs. search needs)
     times
-    exact-2
+    (λ c. exact _ (c .before .before .pre .0))
     (λ c. search needs)
     (λ c κs. search needs)
     over)

@@ -2,11 +2,11 @@
 use borrow.Author.Needs.{needs}
 use mathlib.Core.Path.{_≡_, sym, ap, _∙_}
 use mir.Syntax.{w32}
+use mir.Val.{SFits}
 use mir.ValLaws.{toZ-ofZ}
 use Rattle.tokens.specs.declared.TokenKind.{TokenKind}
 use Rattle.tokens.specs.Tokens.{span}
 use Rattle.values.specs.Values.{answer, valueAnswer}
-use Rattle.answers.specs.Answers.{accepted, refusal}
 use Rattle.pcode_c.specs.Boundary.{tokenWith, returned, integerAfter, outAfter}
 use Rattle.pcode_c.proofs.Boundary as laws
 use Rattle.pcode_c.proofs.pcode_value.Statement.{statement}
@@ -22,20 +22,20 @@ said c =
     ∙ ap (λ (k : TokenKind). valueAnswer (a .text .now) (record { kind = k; span = span (a .start) (a .end); raw = span (a .start) (a .end) }))
     (c .before .kind-of .ensures)
 
+fits : (c : tie.After-struct-told) → SFits w32 (c .before .before .fields-of .result .integer)
+fits c = search needs
+
 valued : tie.Need-returns
 valued c =
-    let i = c .before .before .value-integer in
-    let k = c .before .before .before .before in
-    let v = k .before .v .given in
+    let f = c .before .before .fields-of in
+    let k = c .before .before .before in
     let p = k .before .before .before in
     let a = p .before .before .before .args in
-    let e = ap answer (sym (v .1)) ∙ said p in (
+    let e = ap answer (sym (k .before .v .given .1)) ∙ said p in (
       laws.none-refused _ _ e,
       (
-        laws.integer-written _ _ e (a .integer .now) _
-            (toZ-ofZ w32 (i .result) (record { sfits = i .ok }) ∙ i .ensures),
-        laws.out-written _ _ e (a .out .now) _ _ _ (c .before .value-case .ensures) (c .value-bits .ensures)
-            (c .before .before .before .value-bounds .ensures),
+        laws.integer-written _ _ e (f .result) (f .ensures) (a .integer .now) _ (toZ-ofZ w32 (f .result .integer) (fits c)),
+        laws.out-written _ _ e (f .result) (f .ensures) (a .out .now),
       ),
     )
 
@@ -57,11 +57,8 @@ pcode-value-spec =
     (λ c κs. search needs)
     (λ c. search needs)
     (λ c κs. search needs)
-    (λ c κs. search needs)
     (λ c. search needs)
-    (λ c κs. search needs)
     (λ c. search needs)
-    (λ c κs. search needs)
     (λ c. search needs)
     (λ c. search needs)
     (λ c. search needs)

@@ -1,10 +1,10 @@
--- `values_test::print_signed` meets its contract. Assumes nothing.
+-- `printing::print_signed` meets its contract. Assumes nothing.
 use borrow.Author.Needs.{needs}
 use mir.Syntax.{w32}
 use mir.Val.{SFits}
-use Rattle.values_test.proofs.Signed as laws
-use Rattle.values_test.proofs.print_signed.Statement.{statement}
-use Rattle.values_test.proofs.print_signed.Tie as tie
+use Rattle.printing.proofs.Signed as laws
+use Rattle.printing.proofs.print_signed.Statement.{statement}
+use Rattle.printing.proofs.print_signed.Tie as tie
 
 fits : (c : tie.Then1) → SFits w32 (c .before .args .n)
 fits c = search needs
