@@ -25,29 +25,29 @@ use Rattle.grammar.proofs.Unique.{one-told}
 use Rattle.grammar.proofs.Depth.{Verdict, read, fault, too-deep, verdict, limited, Over, Judged, as-run, over, judge}
 
 -- a brace too many stands inside
-deep-inside : {d : ℕ} {ts : List Lexeme} {k : ℕ} → TooDeep d ts k → k < length ts
+deep-inside : {ts : List Lexeme} {k : ℕ} → TooDeep ts k → k < length ts
 deep-inside {ts = ts} {k = k} p = omega (arith, outside)
   where
     outside : ¬ (length ts ≤ k)
     outside h = false≢true (subst (λ (t : Lexeme). isOf K.OpenBrace t ≡ true) (List·getD-eq-default ts (lexeme k K.Unknown []) h) (p .opens))
 
 -- a brace too deep comes before a place that is not grammatical
-deep-first : {ts : List Lexeme} {j k : ℕ} → NotGrammatical ts j → TooDeep limit ts k → k < j
+deep-first : {ts : List Lexeme} {j k : ℕ} → NotGrammatical ts j → TooDeep ts k → k < j
 deep-first b p = bad-later b (deep-inside p) (p .begins)
 
 module _ {S : Type 0} (emit : Event → S → S) where
-  deep-of : {d : ℕ} {s : S} {ts : List Lexeme} {n : ℕ} (o : Over emit text d s ts n) → TooDeep d ts (length (o .before))
-  deep-of {d = d} {s = s} o = subst (λ (l : List Lexeme). TooDeep d l (length (o .before))) (sym (o .cut)) there
+  deep-of : {s : S} {ts : List Lexeme} {n : ℕ} (o : Over emit text limit s ts n) → TooDeep ts (length (o .before))
+  deep-of {s = s} o = subst (λ (l : List Lexeme). TooDeep l (length (o .before))) (sym (o .cut)) there
     where
-      there : TooDeep d (o .before ++ (o .brace ∷ o .after)) (length (o .before))
+      there : TooDeep (o .before ++ (o .brace ∷ o .after)) (length (o .before))
       there =
           record {
             opens = subst (λ (t : Lexeme). isOf K.OpenBrace t ≡ true) (sym (getD-at (o .before) (o .brace) (o .after) (lexeme (length (o .before)) K.Unknown []) (length (o .before)) refl)) (o .opens);
             begins = subst (λ (l : List Lexeme). Begins l) (sym (up-to (o .before) (o .brace) (o .after))) (begins-of emit (o .before ++ (o .brace ∷ [])) s (o .can));
-            full = subst (λ (l : List Lexeme). countOf K.CloseBrace l + d ≤ countOf K.OpenBrace l) (sym (take-at (o .before) (o .brace ∷ o .after) (length (o .before)) refl)) (o .full);
+            full = subst (λ (l : List Lexeme). countOf K.CloseBrace l + limit ≤ countOf K.OpenBrace l) (sym (take-at (o .before) (o .brace ∷ o .after) (length (o .before)) refl)) (o .full);
           }
 
-  over-of : {d : ℕ} (s : S) {ts : List Lexeme} {k : ℕ} → TooDeep d ts k → Over emit text d s ts (length ts - k)
+  over-of : (s : S) {ts : List Lexeme} {k : ℕ} → TooDeep ts k → Over emit text limit s ts (length ts - k)
   over-of s {ts = ts} {k = k} p =
       record {
         before = take k ts;
@@ -61,7 +61,7 @@ module _ {S : Type 0} (emit : Event → S → S) where
         full = p .full;
       }
 
-  over-length : {d : ℕ} {s : S} {ts : List Lexeme} {n : ℕ} (o : Over emit text d s ts n) → length (o .before) + n ≡ length ts
+  over-length : {s : S} {ts : List Lexeme} {n : ℕ} (o : Over emit text limit s ts n) → length (o .before) + n ≡ length ts
   over-length o = omega (arith, o .left, ap length (o .cut), length-append (o .before) (o .brace ∷ o .after))
 
   -- what a verdict means, with n tokens left
@@ -71,7 +71,7 @@ module _ {S : Type 0} (emit : Event → S → S) where
     opens-too-deep : {n : ℕ} (k : ℕ) → k + n ≡ length ts → Outcome ts (refused 7 k) → Means ts s (too-deep n)
 
   -- where no block opens too deep
-  by-answer : (ts : List Lexeme) (s : S) → ((k : ℕ) → ¬ TooDeep limit ts k) → (z : M.Answer S) → run emit text s ts ≡ z → Means ts s (verdict z)
+  by-answer : (ts : List Lexeme) (s : S) → ((k : ℕ) → ¬ TooDeep ts k) → (z : M.Answer S) → run emit text s ts ≡ z → Means ts s (verdict z)
   by-answer ts s f (M.accepted z) h =
       let g = text-back emit ts s (subst (λ (y : M.Answer S). Accepts y) (sym h) tt) in
       let e : emits emit (g .0) s ≡ z = cc (text-runs emit s (g .1)) in

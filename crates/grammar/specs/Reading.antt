@@ -61,7 +61,7 @@ abbrev mutual
 
 -- ---- levels, numbered as their brace opens
 
--- what is written in a level, with its owner and the number of its first action
+-- what is written in a level, with its owner and the number that its first action has or would have
 pub record Opened : Type 0 where
   pub owner : Option Owner
   pub first : ℕ

@@ -37,6 +37,10 @@ NotGrammatical ts k = FirstBad ts k ⊎ EndsEarly ts k
 
 -- ---- the place of 7
 
+-- so many blocks may be open at once
+abbrev pub limit : ℕ
+limit = 64
+
 abbrev pub isOf : TokenKind → Lexeme → Bool
 isOf k (lexeme i l w) = isKind l k
 
@@ -47,30 +51,27 @@ countOf k (t ∷ ts) = cond (isOf k t) (suc (countOf k ts)) (countOf k ts)
 
 -- at k stands a `{` that some grammatical list has after the tokens before it, while `limit` blocks or more are open: the
 -- `{` before it less the `}` before it
-pub record TooDeep (limit : ℕ) (ts : List Lexeme) (k : ℕ) : Type 0 where
+pub record TooDeep (ts : List Lexeme) (k : ℕ) : Type 0 where
   pub opens : isOf K.OpenBrace (getD ts k (lexeme k K.Unknown [])) ≡ true
   pub begins : Begins (take (suc k) ts)
   pub full : countOf K.CloseBrace (take k ts) + limit ≤ countOf K.OpenBrace (take k ts)
 
 -- ---- the refusals: of 6 and 7 the earlier place wins
 
-abbrev pub limit : ℕ
-limit = 64
-
 pub record Refusal₆ (ts : List Lexeme) (k : ℕ) : Type 0 where
   pub ungrammatical : NotGrammatical ts k
-  pub earlier : (j : ℕ) → j < k → ¬ TooDeep limit ts j
+  pub earlier : (j : ℕ) → j < k → ¬ TooDeep ts j
 
 pub record Refusal₇ (ts : List Lexeme) (k : ℕ) : Type 0 where
-  pub deep : TooDeep limit ts k
-  pub first : (j : ℕ) → j < k → ¬ TooDeep limit ts j
+  pub deep : TooDeep ts k
+  pub first : (j : ℕ) → j < k → ¬ TooDeep ts j
   pub earlier : (j : ℕ) → j < k → ¬ NotGrammatical ts j
 
 -- what reading makes of a list of tokens, tables aside: 6, 7, or a reading and no block too deep
 pub data Outcome (ts : List Lexeme) : Answer Reading → Type 0 where
   row₆ : {k : ℕ} → Refusal₆ ts k → Outcome ts (refused 6 k)
   row₇ : {k : ℕ} → Refusal₇ ts k → Outcome ts (refused 7 k)
-  reads : {R : Reading} → Reads ts R → ((k : ℕ) → ¬ TooDeep limit ts k) → Outcome ts (accepted R)
+  reads : {R : Reading} → Reads ts R → ((k : ℕ) → ¬ TooDeep ts k) → Outcome ts (accepted R)
 
 -- ---- 8: a table is too short if a reading has more entries for it than it has places; the lowest table
 
