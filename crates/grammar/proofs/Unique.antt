@@ -13,7 +13,7 @@ use Rattle.grammar.proofs.Machine.{Answer, accepted, refused, text, run
 use Rattle.grammar.proofs.Forward.{text-runs}
 
 -- the events of a tree, before the events k
-abbrev givens : List Lexeme → List Event → List Event
+abbrev pub givens : List Lexeme → List Event → List Event
 givens [] k = k
 givens (t ∷ os) k = given t ∷ givens os k
 
@@ -23,7 +23,7 @@ abbrev mutual
   events (label t x) k = named t ∷ events x k
   events (action n os bs x) k = acted n ∷ block-events bs os (events x k)
 
-  block-events : Blocks → List Lexeme → List Event → List Event
+  pub block-events : Blocks → List Lexeme → List Event → List Event
   block-events no-blocks os k = givens os k
   block-events (block p x bs) os k = givens (leading p os) (opened p ∷ events x (closed ∷ block-events bs (waiting p os) k))
 

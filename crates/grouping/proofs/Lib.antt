@@ -1,0 +1,4 @@
+pub mod Keys
+mod Counts
+mod Parts
+mod Calls

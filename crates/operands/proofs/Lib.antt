@@ -1,0 +1,4 @@
+pub mod OneToken
+pub mod Places
+pub mod Runs
+pub mod Forms

@@ -1,0 +1,18 @@
+-- `operands::u16_at` meets its contract. Assumes nothing.
+use borrow.Author.Needs.{needs}
+use Rattle.operands.proofs.OneToken.{u16-is, u16-is-not}
+use Rattle.operands.proofs.u16_at.Statement.{statement}
+use Rattle.operands.proofs.u16_at.Tie as tie
+
+pub u16-at-spec : {M : Type 1} → statement M
+u16-at-spec =
+    tie.close
+    (tie.spec
+    (λ c. search needs)
+    (λ c. search needs)
+    (λ c κs. search needs)
+    (λ c κs. search needs)
+    (λ c. search needs)
+    (λ c. search needs)
+    (λ c. search u16-is)
+    (λ c. search u16-is-not))

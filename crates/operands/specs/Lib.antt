@@ -1,0 +1,3 @@
+pub mod Lexemes
+pub mod Log
+pub mod Contract

@@ -1,0 +1,3 @@
+pub mod Leaves
+pub mod Cycle
+pub mod Whole
