@@ -153,7 +153,7 @@ fn next_handler(text: &[u8], s: &[u64], c: At) -> Handler
 }
 
 // A string or a register before the block of a Try.
-fn target(text: &[u8], s: &[u64], c: At) -> CatchTarget
+fn try_target(text: &[u8], s: &[u64], c: At) -> CatchTarget
     requires { ⌜ Fine (now text) (now s) c ⌝ }
     ensures { λ r. ⌜ TargetRead (now (text .entry)) (now (s .entry)) c r ⌝ }
 {
@@ -329,7 +329,7 @@ fn try_catch(text: &[u8], s: &[u64], events: &mut [u64], c: At, room: usize) -> 
     requires { ⌜ Fine (now text) (now s) c ⌝ }
     ensures { λ r. ⌜ TryRead (now (text .entry)) (now (s .entry)) (now (events .entry)) (now (events .exit)) c room r ⌝ }
 {
-    let a = target(text, s, c);
+    let a = try_target(text, s, c);
     let d = past_target(c, a);
     let r = block(text, s, events, d, room, BlockKind::Try);
     let Step::To(p) = r else {

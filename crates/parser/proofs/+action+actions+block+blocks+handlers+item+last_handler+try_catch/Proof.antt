@@ -47,7 +47,7 @@ use Rattle.parser.proofs.label.Reads as label-reads
 use Rattle.parser.proofs.move_to.Reads as move-to-reads
 use Rattle.parser.proofs.next_handler.Reads as next-handler-reads
 use Rattle.parser.proofs.past_target.Reads as past-target-reads
-use Rattle.parser.proofs.target.Reads as target-reads
+use Rattle.parser.proofs.try_target.Reads as try-target-reads
 use Rattle.shapes.proofs.shape_of.Reads as shape-of-reads
 use Rattle.tokens.proofs.token_of.Reads as token-of-reads
 use Rattle.parser.proofs.+action+actions+block+blocks+handlers+item+last_handler+try_catch.{
@@ -159,7 +159,7 @@ abbrev last-handler-claims : ℕ → last-handler-lts.Claims
 last-handler-claims t = (next-handler-reads.Asked, next-handler-reads.Learnt, move-to-reads.Asked, move-to-reads.Learnt, block-below t, block.Post)
 
 abbrev try-catch-claims : ℕ → try-catch-lts.Claims
-try-catch-claims t = (target-reads.Asked, target-reads.Learnt, past-target-reads.Asked, past-target-reads.Learnt, block-below t, block.Post, handlers-below t, handlers.Post)
+try-catch-claims t = (try-target-reads.Asked, try-target-reads.Learnt, past-target-reads.Asked, past-target-reads.Learnt, block-below t, block.Post, handlers-below t, handlers.Post)
 
 abbrev actions-Inv-loop : actions-lts.InvT-loop
 actions-Inv-loop text s events₀ room inside p₀ events p = Reaches text s events₀ events p₀ room inside p × (length events ≡ length events₀)
@@ -464,8 +464,8 @@ last-handler-returns t c = search last-finally
 last-handler-returns-2 : (t : ℕ) → last-handler-lts.Need-returns-2 (last-handler-claims t) (last-handler-at t) last-handler.Post
 last-handler-returns-2 t c = search last-none
 
-try-catch-target-requires : (t : ℕ) → try-catch-lts.Need-target-requires (try-catch-claims t) (try-catch-at t) try-catch.Post
-try-catch-target-requires t c κs = search needs
+try-catch-try-target-requires : (t : ℕ) → try-catch-lts.Need-try-target-requires (try-catch-claims t) (try-catch-at t) try-catch.Post
+try-catch-try-target-requires t c κs = search needs
 
 try-catch-past-target-requires : (t : ℕ) → try-catch-lts.Need-past-target-requires (try-catch-claims t) (try-catch-at t) try-catch.Post
 try-catch-past-target-requires t c κs = search needs
@@ -691,8 +691,8 @@ pub +action+actions+block+blocks+handlers+item+last-handler+try-catch-spec :
     (last-handler-returns t)
     (last-handler-returns-2 t))
     λ t. try-catch-lts.spec (
-      target-reads.Asked,
-      target-reads.Learnt,
+      try-target-reads.Asked,
+      try-target-reads.Learnt,
       past-target-reads.Asked,
       past-target-reads.Learnt,
       block-below t,
@@ -702,7 +702,7 @@ pub +action+actions+block+blocks+handlers+item+last-handler+try-catch-spec :
     )
     (try-catch-at t)
     try-catch.Post
-    (try-catch-target-requires t)
+    (try-catch-try-target-requires t)
     (try-catch-past-target-requires t)
     (try-catch-block-requires t)
     (try-catch-enum-known-r t)

@@ -1,0 +1,70 @@
+-- The table word of each entry, and back. Callers see the structs alone.
+use mathlib.Core.Bool.{cond}
+use Prim.Native.Nat.{ℕ, zero, suc, _+_, _-_, _*_, _/_, _%_}
+use lib.Dec.{ltb}
+use lib.IntN.{ℤ, pos, negsuc, subℕ}
+use Rattle.actions.specs.Numbers.{actionAt, numberOf}
+use Rattle.entries.specs.declared.Action.{Action}
+use Rattle.entries.specs.declared.Operand.{Operand}
+use Rattle.entries.specs.declared.Block.{Block}
+use Rattle.entries.specs.declared.Block.the-variants as B
+use Rattle.entries.specs.declared.Net.{Net}
+use Rattle.entries.specs.declared.Net.the-variants as N
+use Rattle.entries.specs.declared.Level.{Level}
+use Rattle.entries.specs.declared.Label.{Label}
+
+abbrev pub actionWord : Action → ℕ
+actionWord a = numberOf (a .name) * 2251799813685248 + a .level * 17179869184 + a .first * 131072 + a .count
+
+abbrev pub actionOf : ℕ → Action
+actionOf w =
+    record {
+      name = actionAt (w / 2251799813685248);
+      level = w / 17179869184 % 131072;
+      first = w / 131072 % 131072;
+      count = w % 131072;
+    }
+
+abbrev pub operandWord : Operand → ℕ
+operandWord o = o .action * 1099511627776 + o .token
+
+abbrev pub operandOf : ℕ → Operand
+operandOf w = record { action = w / 1099511627776; token = w % 1099511627776 }
+
+abbrev pub blockNumber : Block → ℕ
+blockNumber B.Top = 0
+blockNumber (B.Body a) = a * 4 + 1
+blockNumber (B.Try a) = a * 4 + 2
+blockNumber (B.Catch a) = a * 4 + 3
+blockNumber (B.Finally a) = a * 4 + 4
+
+abbrev pub partOf : ℕ → ℕ → Block
+partOf zero a = B.Body a
+partOf (suc zero) a = B.Try a
+partOf (suc (suc zero)) a = B.Catch a
+partOf (suc (suc (suc n))) a = B.Finally a
+
+unfoldable pub blockOf : ℕ → Block
+blockOf zero = B.Top
+blockOf (suc n) = partOf (n % 4) (n / 4)
+
+-- a height lies from -196,608 to 65,536
+abbrev pub netNumber : Net → ℕ
+netNumber (N.Height (pos n)) = 196608 + n
+netNumber (N.Height (negsuc n)) = 196607 - n
+netNumber (N.Undetermined a) = 524288 + a
+
+unfoldable pub netOf : ℕ → Net
+netOf n = cond (ltb n 524288) (N.Height (subℕ n 196608)) (N.Undetermined (n - 524288))
+
+abbrev pub levelWord : Level → ℕ
+levelWord l = blockNumber (l .block) * 1099511627776 + l .actions * 1048576 + netNumber (l .net)
+
+abbrev pub levelOf : ℕ → Level
+levelOf w = record { block = blockOf (w / 1099511627776); actions = w / 1048576 % 1048576; net = netOf (w % 1048576) }
+
+abbrev pub labelWord : Label → ℕ
+labelWord l = l .level * 1099511627776 + l .position * 1048576 + l .token
+
+abbrev pub labelOf : ℕ → Label
+labelOf w = record { level = w / 1099511627776; token = w % 1048576; position = w / 1048576 % 1048576 }
