@@ -34,7 +34,7 @@ use Rattle.numbers.specs.Doubles.{double}
 use Rattle.values.specs.declared.PushValue.{PushValue}
 use Rattle.values.specs.declared.TokenValue.{TokenValue}
 use Rattle.values.specs.declared.TokenValue.the-variants as V′
-use Rattle.values.specs.Values.{doubleOrLong, floatValue, integerOr, integerValue, pushValue, orSix, valueAnswer, answer, integerText, u8Of, u16Of, i32Of}
+use Rattle.values.specs.Values.{doubleOrLong, floatValue, integerOr, integerValue, pushValue, orSix, valueAnswer, answer, integerText, i32Of}
 use Rattle.grammar.specs.Operands.{isSome, isParsed}
 use Rattle.operands.specs.declared.Class.{Class}
 use Rattle.operands.specs.declared.Class.the-variants as C
@@ -137,25 +137,28 @@ unfolding natural isNatural runOf
 parsed-told top true w = refl
 parsed-told top false w = refl
 
-u8-told : (text s : List ℕ) (at : ℕ) → isParsed (u8Of text (tokenOf (getD s at 0))) ≡ classAt C.U8 text s at
+-- the largest number of a width
+pub data Largest : Class → ℕ → Type 0 where
+  u8 : Largest C.U8 255
+  u16 : Largest C.U16 65535
+
+natural-told : {m : Class} {top : ℕ} → Largest m top → (text s : List ℕ) (at : ℕ)
+    → isParsed (natural top (integerText text (tokenOf (getD s at 0)))) ≡ classAt m text s at
 unfolding classAt integerText
-u8-told text s at = let t = tokenOf (getD s at 0) in parsed-told 255 (isKind (t .kind) K.Integer) (rawText text t)
+natural-told u8 text s at = let t = tokenOf (getD s at 0) in parsed-told 255 (isKind (t .kind) K.Integer) (rawText text t)
+natural-told u16 text s at = let t = tokenOf (getD s at 0) in parsed-told 65535 (isKind (t .kind) K.Integer) (rawText text t)
 
-u16-told : (text s : List ℕ) (at : ℕ) → isParsed (u16Of text (tokenOf (getD s at 0))) ≡ classAt C.U16 text s at
-unfolding classAt integerText
-u16-told text s at = let t = tokenOf (getD s at 0) in parsed-told 65535 (isKind (t .kind) K.Integer) (rawText text t)
+module _ {m : Class} {top : ℕ} (l : Largest m top) (text s : List ℕ) (at : ℕ) (t : Token) (r v : Natural) where
+  parsed-at : t ≡ tokenOf (getD s at 0) → r ≡ natural top (integerText text t) → r ≡ v → isParsed v ≡ classAt m text s at
+  parsed-at e a q = ap isParsed (sym q ∙ a ∙ ap (λ (x : Token). natural top (integerText text x)) e) ∙ natural-told l text s at
 
-pub u8-is : (text s : List ℕ) (at : ℕ) (t : Token) (n : ℕ) (r : Natural) → t ≡ tokenOf (getD s at 0) → r ≡ u8Of text t → r ≡ N.Is n → true ≡ classAt C.U8 text s at
-u8-is text s at t n r e a q = ap isParsed (sym q ∙ a ∙ ap (u8Of text) e) ∙ u8-told text s at
+pub natural-is : {m : Class} {top : ℕ} → Largest m top → (text s : List ℕ) (at : ℕ) (t : Token) (n : ℕ) (r : Natural)
+    → t ≡ tokenOf (getD s at 0) → r ≡ natural top (integerText text t) → r ≡ N.Is n → true ≡ classAt m text s at
+natural-is l text s at t n r e a q = parsed-at l text s at t r (N.Is n) e a q
 
-pub u8-is-not : (text s : List ℕ) (at : ℕ) (t : Token) (r : Natural) → t ≡ tokenOf (getD s at 0) → r ≡ u8Of text t → r ≡ N.Nothing → false ≡ classAt C.U8 text s at
-u8-is-not text s at t r e a q = ap isParsed (sym q ∙ a ∙ ap (u8Of text) e) ∙ u8-told text s at
-
-pub u16-is : (text s : List ℕ) (at : ℕ) (t : Token) (n : ℕ) (r : Natural) → t ≡ tokenOf (getD s at 0) → r ≡ u16Of text t → r ≡ N.Is n → true ≡ classAt C.U16 text s at
-u16-is text s at t n r e a q = ap isParsed (sym q ∙ a ∙ ap (u16Of text) e) ∙ u16-told text s at
-
-pub u16-is-not : (text s : List ℕ) (at : ℕ) (t : Token) (r : Natural) → t ≡ tokenOf (getD s at 0) → r ≡ u16Of text t → r ≡ N.Nothing → false ≡ classAt C.U16 text s at
-u16-is-not text s at t r e a q = ap isParsed (sym q ∙ a ∙ ap (u16Of text) e) ∙ u16-told text s at
+pub natural-is-not : {m : Class} {top : ℕ} → Largest m top → (text s : List ℕ) (at : ℕ) (t : Token) (r : Natural)
+    → t ≡ tokenOf (getD s at 0) → r ≡ natural top (integerText text t) → r ≡ N.Nothing → false ≡ classAt m text s at
+natural-is-not l text s at t r e a q = parsed-at l text s at t r N.Nothing e a q
 
 -- ---- the class at a place
 

@@ -1,6 +1,6 @@
 -- `operands::u16_at` meets its contract. Assumes nothing.
 use borrow.Author.Needs.{needs}
-use Rattle.operands.proofs.OneToken.{u16-is, u16-is-not}
+use Rattle.operands.proofs.OneToken.{u16, natural-is, natural-is-not}
 use Rattle.operands.proofs.u16_at.Statement.{statement}
 use Rattle.operands.proofs.u16_at.Tie as tie
 
@@ -14,5 +14,5 @@ u16-at-spec =
     (λ c κs. search needs)
     (λ c. search needs)
     (λ c. search needs)
-    (λ c. search u16-is)
-    (λ c. search u16-is-not))
+    (λ c. search (natural-is u16))
+    (λ c. search (natural-is-not u16)))

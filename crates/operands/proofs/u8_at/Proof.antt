@@ -1,6 +1,6 @@
 -- `operands::u8_at` meets its contract. Assumes nothing.
 use borrow.Author.Needs.{needs}
-use Rattle.operands.proofs.OneToken.{u8-is, u8-is-not}
+use Rattle.operands.proofs.OneToken.{u8, natural-is, natural-is-not}
 use Rattle.operands.proofs.u8_at.Statement.{statement}
 use Rattle.operands.proofs.u8_at.Tie as tie
 
@@ -14,5 +14,5 @@ u8-at-spec =
     (λ c κs. search needs)
     (λ c. search needs)
     (λ c. search needs)
-    (λ c. search u8-is)
-    (λ c. search u8-is-not))
+    (λ c. search (natural-is u8))
+    (λ c. search (natural-is-not u8)))
