@@ -27,6 +27,22 @@ uint64_t pcode_lex(const uint8_t *text, size_t text_len, uint64_t *table, size_t
  * the number of the action. out[1], out[2]: start and end of its span. out[3], out[4]: start and end of its raw text. */
 void pcode_token(uint64_t word, uint64_t out[5]);
 
+/* The action of a table word. out[0]: its number, 0 Add to 99 With in the order of ActionName. out[1]: its level. out[2]: its first
+ * entry in the operand table. out[3]: how many operand entries it has, one after the other. */
+void pcode_action(uint64_t word, uint64_t out[4]);
+
+/* The operand of a table word. out[0]: its action. out[1]: its token. */
+void pcode_operand(uint64_t word, uint64_t out[2]);
+
+/* The level of a table word. out[0]: which block it is, 0 top, 1 body, 2 try, 3 catch, 4 finally. out[1]: the action whose block it
+ * is, 0 for the top level. out[2]: how many actions it has, bodies not counted. out[3]: 0 where its net is a height, 1 where it is
+ * undetermined. out[4]: its first undetermined action, else 0. height[0]: the height, 0 where the net is undetermined. */
+void pcode_level(uint64_t word, uint64_t out[5], int64_t height[1]);
+
+/* The label of a table word. out[0]: its level. out[1]: the token that first names it. out[2]: the position it was given last, the
+ * number of actions before it in its level. */
+void pcode_label(uint64_t word, uint64_t out[3]);
+
 /* The bounds of the raw text from start up to end: those bounds, or 0 and 0 where they are out of order or past the text. */
 void pcode_raw_text(const uint8_t *text, size_t text_len, size_t start, size_t end, uint64_t out[2]);
 

@@ -7,6 +7,15 @@ mod c {
         pub fn pcode_delta(action: usize, values: usize, name_is_empty: bool, out: *mut i32) -> u64;
         pub fn pcode_value(text: *const u8, text_len: usize, kind: u64, start: usize, end: usize, integer: *mut i32, out: *mut u64) -> u64;
         pub fn pcode_raw_text(text: *const u8, text_len: usize, start: usize, end: usize, out: *mut u64);
+        pub fn pcode_read(
+            text: *const u8, text_len: usize, tokens: *mut u64, tokens_len: usize, actions: *mut u64, actions_len: usize,
+            operands: *mut u64, operands_len: usize, levels: *mut u64, levels_len: usize, labels: *mut u64, labels_len: usize,
+            out: *mut u64,
+        ) -> u64;
+        pub fn pcode_action(word: u64, out: *mut u64);
+        pub fn pcode_operand(word: u64, out: *mut u64);
+        pub fn pcode_level(word: u64, out: *mut u64, net: *mut i64);
+        pub fn pcode_label(word: u64, out: *mut u64);
     }
 }
 
@@ -62,6 +71,61 @@ pub fn value(text: &[u8], kind: u64, start: u64, end: u64) -> Result<Value, u64>
         return Err(number);
     }
     Ok(Value { case: out[0], integer: integer[0], bits: out[1], bounds: (out[2], out[3]) })
+}
+
+/// Reading into lent tables of tokens, actions, operands, levels and labels: the refusal's number, or 0.
+pub fn read(text: &[u8], tables: [&mut [u64]; 5], out: &mut [u64; 5]) -> u64 {
+    let [tokens, actions, operands, levels, labels] = tables;
+    unsafe {
+        c::pcode_read(
+            text.as_ptr(), text.len(), tokens.as_mut_ptr(), tokens.len(), actions.as_mut_ptr(), actions.len(),
+            operands.as_mut_ptr(), operands.len(), levels.as_mut_ptr(), levels.len(), labels.as_mut_ptr(), labels.len(),
+            out.as_mut_ptr(),
+        )
+    }
+}
+
+pub struct Action {
+    pub name: usize,
+    pub level: usize,
+    pub first: usize,
+    pub count: usize,
+}
+
+pub fn action(word: u64) -> Action {
+    let mut out = [0u64; 4];
+    unsafe { c::pcode_action(word, out.as_mut_ptr()) };
+    let [name, level, first, count] = out.map(|n| n as usize);
+    Action { name, level, first, count }
+}
+
+/// The action and the token of an operand.
+pub fn operand(word: u64) -> (usize, usize) {
+    let mut out = [0u64; 2];
+    unsafe { c::pcode_operand(word, out.as_mut_ptr()) };
+    (out[0] as usize, out[1] as usize)
+}
+
+pub struct Level {
+    pub block: u64,
+    pub owner: usize,
+    pub actions: usize,
+    /// The height, or the first action whose delta is undetermined.
+    pub net: Result<i64, i64>,
+}
+
+pub fn level(word: u64) -> Level {
+    let (mut out, mut net) = ([0u64; 4], [0i64; 1]);
+    unsafe { c::pcode_level(word, out.as_mut_ptr(), net.as_mut_ptr()) };
+    let net = if out[3] == 0 { Ok(net[0]) } else { Err(net[0]) };
+    Level { block: out[0], owner: out[1] as usize, actions: out[2] as usize, net }
+}
+
+/// The level, the token and the position of a label.
+pub fn label(word: u64) -> (usize, usize, usize) {
+    let mut out = [0u64; 3];
+    unsafe { c::pcode_label(word, out.as_mut_ptr()) };
+    (out[0] as usize, out[1] as usize, out[2] as usize)
 }
 
 /// Lexing alone into a table that the caller lends: best and median of five rounds, as the oracle's --bench prints its own.

@@ -6,17 +6,28 @@
 //!   compare ORACLE all COUNT SEED                 all of these
 //!   compare ORACLE deltas                         the delta of every action, with each kind of operands
 //!   compare ORACLE values LENGTH COUNT SEED       every value: all texts over numerals up to a length, listed literals, number texts
+//!   compare ORACLE reading MODE COUNT SEED        reading; MODE: bytes, words, grammar, mutate, slips, deep, labels
+//!   compare ORACLE reading exhaustive WHAT LENGTH  WHAT: an alphabet, headed (texts behind starts of actions), edits (of actions)
+//!   compare ORACLE reading telling                texts that document 01 names
+//!   compare ORACLE reading boundary               the sizes around 65,536 bytes, and as many entries as can be
+//!   compare ORACLE reading all COUNT SEED         all of these, deep with a fifth of COUNT
 //!   compare ORACLE sample FILE COUNT SEED         the oracle's answers in FILE1, FILE2, .. of 65,536 bytes, for crates/lex_replay
 //!   compare ordinary FILE SIZE SEED               an ordinary patch of about that many bytes
 //!   compare bench FILE SECONDS                    lexing speed on one text
 
 mod ffi;
+mod listing;
+mod oracle;
+mod patches;
+mod places;
+mod reading;
+mod recogniser;
 mod texts;
 mod values;
 
 use std::collections::BTreeMap;
-use std::io::Write;
-use std::process::{Command, Stdio};
+
+use oracle::dump;
 
 const BATCH: usize = 20_000;
 const UNTOUCHED: u64 = 0xdead_beef_dead_beef;
@@ -174,15 +185,43 @@ fn compare(oracle: &str, mode: &str, args: &[String]) -> u64 {
     report.differences
 }
 
-/// The lines of the oracle's dump.
-fn dump(oracle: &str, batch: &[Vec<u8>]) -> String {
-    let mut child = Command::new(oracle).arg("--dump").stdin(Stdio::piped()).stdout(Stdio::piped()).spawn().expect("the oracle starts");
-    let mut stdin = child.stdin.take().unwrap();
-    let framed: Vec<u8> = batch.iter().flat_map(|t| (t.len() as u32).to_le_bytes().into_iter().chain(t.iter().copied())).collect();
-    let feeder = std::thread::spawn(move || stdin.write_all(&framed));
-    let out = child.wait_with_output().expect("the oracle ends");
-    feeder.join().unwrap().unwrap();
-    String::from_utf8(out.stdout).unwrap()
+/// Reading on the texts of one generator.
+fn read(oracle: &str, mode: &str, args: &[&str]) -> u64 {
+    let number = |i: usize| args.get(i).and_then(|a| a.parse::<u64>().ok()).expect("a number");
+    let what = [&[mode], args].concat().join(" ");
+    match (mode, args) {
+        ("exhaustive", ["headed", _]) => reading::compare(oracle, &what, patches::headed(number(1) as usize)),
+        ("exhaustive", ["edits", _]) => reading::compare(oracle, &what, patches::edits(number(1) as usize)),
+        ("exhaustive", [alphabet, _]) => reading::compare(oracle, &what, texts::exhaustive(alphabet, number(1) as usize)),
+        ("bytes", _) => reading::compare(oracle, &what, texts::bytes(number(0), number(1))),
+        ("words", _) => reading::compare(oracle, &what, texts::words(number(0), number(1))),
+        ("grammar", _) => reading::compare(oracle, &what, texts::grammar(number(0), number(1))),
+        ("mutate", _) => reading::compare(oracle, &what, texts::mutate(number(0), number(1))),
+        ("slips", _) => reading::compare(oracle, &what, patches::slips(number(0), number(1))),
+        ("deep", _) => reading::compare(oracle, &what, patches::deep(number(0), number(1))),
+        ("labels", _) => reading::compare(oracle, &what, patches::labels(number(0), number(1))),
+        ("telling", _) => reading::compare(oracle, &what, patches::telling().into_iter()),
+        ("boundary", _) => reading::compare(oracle, &what, texts::boundary().chain(patches::large())),
+        _ => panic!("no such mode: {mode}"),
+    }
+}
+
+/// The exhaustive runs of reading, with the length that `all` goes to.
+const READ_ALPHABETS: [(&str, &str); 10] = [
+    ("headed", "4"), ("edits", "2"), ("blocks", "6"), ("tries", "7"), ("lines", "6"),
+    ("numbers", "5"), ("strings", "5"), ("words", "4"), ("newlines", "6"), ("utf8", "4"),
+];
+
+fn read_all(oracle: &str, count: u64, seed: &str) -> u64 {
+    let mut d = read(oracle, "telling", &[]) + read(oracle, "boundary", &[]);
+    for (what, length) in READ_ALPHABETS {
+        d += read(oracle, "exhaustive", &[what, length]);
+    }
+    for mode in ["bytes", "words", "grammar", "mutate", "slips", "labels"] {
+        d += read(oracle, mode, &[&count.to_string(), seed]);
+    }
+    // its texts are ten times as long
+    d + read(oracle, "deep", &[&(count / 5).to_string(), seed])
 }
 
 /// The deltas of all actions: the oracle's, `?` where the Rust panics, against ours, refusal 9 there.
@@ -272,6 +311,8 @@ fn main() {
         [oracle, "values", length, count, seed] => {
             values::numbers(oracle, length.parse().expect("a length"), count.parse().expect("a count"), seed.parse().expect("a seed"))
         }
+        [oracle, "reading", "all", count, seed] => read_all(oracle, count.parse().expect("a count"), seed),
+        [oracle, "reading", mode, ref more @ ..] => read(oracle, mode, more),
         [oracle, "sample", file, count, seed] => {
             sample(oracle, file, count.parse().expect("a count"), seed.parse().expect("a seed"));
             0

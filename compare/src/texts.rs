@@ -14,6 +14,15 @@ fn alphabet(name: &str) -> Vec<&'static [u8]> {
         "words" => &[b"a", b"Z", b"_", b"$", b"0", b"9", b" ", b":", b"-", b".", b"constant", b"register", b"push"],
         "newlines" => &[b"\n", b"\r", b" ", b"\t", b":", b",", b"{", b"}", b"x"],
         "utf8" => &[b"\"", b"\xc3", b"\xa9", b"\xe2", b"\x82", b"\xac", b"\xf0", b"\x9f", b"\xed", b"\xa0", b"\xc0", b"\xf4", b"\x90", b"a"],
+        "blocks" => &[b"With ", b"{ ", b"} ", b"a ", b": ", b"Add ", b"\n", b"Push ", b"1 ", b", "],
+        "tries" => &[b"Try ", b"{ ", b"} ", b"catch ", b"finally ", b"\n", b"\"s\" ", b"register1 ", b"Add "],
+        "lines" => &[
+            b"With {", b"Try {", b"Try \"e\" {", b"}\n", b"}\ncatch {", b"}\nfinally {", b"a: ", b"b:\n", b"Add\n", b"CallMethod\n",
+        ],
+        "operands" => &[
+            b"\"s\" ", b", ", b"1 ", b"256 ", b"65536 ", b"-1 ", b"1.5 ", b"true ", b"false ", b"a ", b"nan ", b"register1 ", b"constant1 ",
+            b"{ ", b"} ", b"\n",
+        ],
         _ => panic!("no such alphabet: {name}"),
     };
     pieces.to_vec()
@@ -373,7 +382,7 @@ const PLAIN: [&str; 19] = [
 ];
 
 /// The names of the actions in the order of the Rust's enum.
-const ACTIONS: [&str; 100] = [
+pub const ACTIONS: [&str; 100] = [
     "Add", "Add2", "And", "AsciiToChar", "BitAnd", "BitLShift", "BitOr", "BitRShift", "BitURShift", "BitXor", "Call",
     "CallFunction", "CallMethod", "CastOp", "CharToAscii", "CloneSprite", "ConstantPool", "Decrement",
     "DefineFunction", "DefineFunction2", "DefineLocal", "DefineLocal2", "Delete", "Delete2", "Divide", "End",

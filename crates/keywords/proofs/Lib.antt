@@ -1,3 +1,4 @@
 pub mod Bench
 pub mod Prefixes
+pub mod Range
 pub mod WordKinds

@@ -4,3 +4,4 @@ pub mod Steps
 pub mod Rows
 pub mod Blanks
 pub mod Theorems
+pub mod Sound

@@ -127,7 +127,7 @@ fn token_at(text: &[u8], at: usize) -> Found
 }
 
 // All tokens into a table that has a place for each byte; of that table after a refusal nothing is said.
-fn lex_into(text: &[u8], words: &mut [u64]) -> Lexing
+pub fn lex_into(text: &[u8], words: &mut [u64]) -> Lexing
     requires { ⌜ (length (now text) ≤ 65536) × (length (now text) ≤ length (now words)) ⌝ }
     ensures { λ r. ⌜ Stored (now (text .entry)) (now (words .exit)) r ⌝ }
 {

@@ -3,7 +3,16 @@ use mathlib.Core.List.{List}
 use Prim.Native.Nat.{ℕ}
 use lib.IntN.{ℤ, pos}
 use lib.ListN.{set}
+use Rattle.actions.specs.Numbers.{numberOf}
 use Rattle.answers.specs.Answers.{Answer, accepted, refused}
+use Rattle.entries.specs.declared.Action.{Action}
+use Rattle.entries.specs.declared.Operand.{Operand}
+use Rattle.entries.specs.declared.Block.{Block}
+use Rattle.entries.specs.declared.Block.the-variants as B
+use Rattle.entries.specs.declared.Net.{Net}
+use Rattle.entries.specs.declared.Net.the-variants as N
+use Rattle.entries.specs.declared.Level.{Level}
+use Rattle.entries.specs.declared.Label.{Label}
 use Rattle.tokens.specs.declared.Span.{Span}
 use Rattle.tokens.specs.declared.Token.{Token}
 use Rattle.tokens.specs.Kinds.{kindNumber, kindOf}
@@ -67,3 +76,51 @@ outAfter (accepted v) old =
     let f = fieldsOf v in
     set (set (set (set old 0 (f .tag)) 1 (f .bits)) 2 (f .text .start)) 3 (f .text .end)
 outAfter (refused n p) old = old
+
+-- ---- the entries of the tables
+
+-- number, level, first operand entry and operand count of an action
+abbrev pub actionAfter : Action → List ℕ → List ℕ
+actionAfter a old = set (set (set (set old 0 (numberOf (a .name))) 1 (a .level)) 2 (a .first)) 3 (a .count)
+
+abbrev pub operandAfter : Operand → List ℕ → List ℕ
+operandAfter o old = set (set old 0 (o .action)) 1 (o .token)
+
+-- which block of its action a level is; the top level is none
+abbrev pub blockPart : Block → ℕ
+blockPart B.Top = 0
+blockPart (B.Body a) = 1
+blockPart (B.Try a) = 2
+blockPart (B.Catch a) = 3
+blockPart (B.Finally a) = 4
+
+abbrev pub blockAction : Block → ℕ
+blockAction B.Top = 0
+blockAction (B.Body a) = a
+blockAction (B.Try a) = a
+blockAction (B.Catch a) = a
+blockAction (B.Finally a) = a
+
+-- whether a net is undetermined, the first undetermined action, and the height
+abbrev pub netKind : Net → ℕ
+netKind (N.Height h) = 0
+netKind (N.Undetermined a) = 1
+
+abbrev pub netAction : Net → ℕ
+netAction (N.Height h) = 0
+netAction (N.Undetermined a) = a
+
+abbrev pub netHeight : Net → ℤ
+netHeight (N.Height h) = h
+netHeight (N.Undetermined a) = pos 0
+
+-- block, action count and net of a level, its height aside
+abbrev pub levelAfter : Level → List ℕ → List ℕ
+levelAfter l old =
+    set (set (set (set (set old 0 (blockPart (l .block))) 1 (blockAction (l .block))) 2 (l .actions)) 3 (netKind (l .net))) 4 (netAction (l .net))
+
+abbrev pub heightAfter : Level → List ℤ → List ℤ
+heightAfter l old = set old 0 (netHeight (l .net))
+
+abbrev pub labelAfter : Label → List ℕ → List ℕ
+labelAfter l old = set (set (set old 0 (l .level)) 1 (l .token)) 2 (l .position)

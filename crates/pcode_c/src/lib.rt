@@ -1,6 +1,8 @@
 // The calls for C and Rust, as include/pcode.h documents them. Each only calls a public function.
 // A slice passes as a pointer and a length; an answer is a refusal's number, or 0, and what it carries goes to `out`.
 use answers::Refusal;
+use entries::Block;
+use entries::Net;
 use lexer::Lexing;
 use pcode::StackDelta;
 use tokens::Span;
@@ -12,10 +14,11 @@ ghost use lib.ListN.{length, set};
 ghost use Rattle.actions.specs.Numbers.{actionAt};
 ghost use Rattle.answers.specs.Answers.{numberOf, placeOf};
 ghost use Rattle.tokens.specs.Tokens.{span, tokenOf, within};
+ghost use Rattle.entries.specs.Entries.{actionOf, operandOf, levelOf, labelOf};
 ghost use Rattle.lexer.specs.Lexing.{counted, lexText, tableAfter};
 ghost use Rattle.pcode.specs.Deltas.{deltaAnswer};
 ghost use Rattle.values.specs.Values.{valueAnswer};
-ghost use Rattle.pcode_c.specs.Boundary.{returned, told, tokenAfter, boundsAfter, deltaAfter, valueWith, fieldsOf, tokenWith, integerAfter, outAfter};
+ghost use Rattle.pcode_c.specs.Boundary.{returned, told, tokenAfter, boundsAfter, deltaAfter, valueWith, fieldsOf, tokenWith, integerAfter, outAfter, actionAfter, operandAfter, blockPart, blockAction, netKind, netAction, netHeight, levelAfter, heightAfter, labelAfter};
 
 fn refused(r: Refusal, out: &mut [u64; 1]) -> u64
     ensures { λ n. ⌜ n ≡ numberOf r ⌝ }
@@ -153,4 +156,104 @@ pub extern "C" fn pcode_value(
         }
         TokenValue::Refused(r) => answers::refusal_number(r),
     }
+}
+
+// ---- the entries of the tables; the numbers of a block and of a net, 0 where there is none
+
+#[no_mangle]
+pub extern "C" fn pcode_action(word: u64, out: &mut [u64; 4])
+    ensures { λ r. ⌜ now (out .exit) ≡ actionAfter (actionOf word) (now (out .entry)) ⌝ }
+{
+    let action = entries::action_of(word);
+    let name = action.name;
+    out[0] = actions::action_number(name) as u64;
+    out[1] = action.level as u64;
+    out[2] = action.first as u64;
+    out[3] = action.count as u64;
+}
+
+#[no_mangle]
+pub extern "C" fn pcode_operand(word: u64, out: &mut [u64; 2])
+    ensures { λ r. ⌜ now (out .exit) ≡ operandAfter (operandOf word) (now (out .entry)) ⌝ }
+{
+    let operand = entries::operand_of(word);
+    out[0] = operand.action as u64;
+    out[1] = operand.token as u64;
+}
+
+fn block_part(b: Block) -> u64
+    ensures { λ r. ⌜ r ≡ blockPart b ⌝ }
+{
+    match b {
+        Block::Top => 0,
+        Block::Body(_) => 1,
+        Block::Try(_) => 2,
+        Block::Catch(_) => 3,
+        Block::Finally(_) => 4,
+    }
+}
+
+fn block_action(b: Block) -> u64
+    ensures { λ r. ⌜ r ≡ blockAction b ⌝ }
+{
+    match b {
+        Block::Top => 0,
+        Block::Body(action) => action as u64,
+        Block::Try(action) => action as u64,
+        Block::Catch(action) => action as u64,
+        Block::Finally(action) => action as u64,
+    }
+}
+
+fn net_kind(n: Net) -> u64
+    ensures { λ r. ⌜ r ≡ netKind n ⌝ }
+{
+    match n {
+        Net::Height(_) => 0,
+        Net::Undetermined(_) => 1,
+    }
+}
+
+fn net_action(n: Net) -> u64
+    ensures { λ r. ⌜ r ≡ netAction n ⌝ }
+{
+    match n {
+        Net::Height(_) => 0,
+        Net::Undetermined(action) => action as u64,
+    }
+}
+
+fn net_height(n: Net) -> i64
+    ensures { λ r. ⌜ r ≡ netHeight n ⌝ }
+{
+    match n {
+        Net::Height(height) => height,
+        Net::Undetermined(_) => 0,
+    }
+}
+
+#[no_mangle]
+pub extern "C" fn pcode_level(word: u64, out: &mut [u64; 5], height: &mut [i64; 1])
+    ensures { λ r. ⌜ now (out .exit) ≡ levelAfter (levelOf word) (now (out .entry)) ⌝ }
+    ensures { λ r. ⌜ now (height .exit) ≡ heightAfter (levelOf word) (now (height .entry)) ⌝ }
+{
+    let level = entries::level_of(word);
+    let block = level.block;
+    let net = level.net;
+    out[0] = block_part(block);
+    out[1] = block_action(block);
+    out[2] = level.actions as u64;
+    out[3] = net_kind(net);
+    out[4] = net_action(net);
+    height[0] = net_height(net);
+}
+
+#[no_mangle]
+pub extern "C" fn pcode_label(word: u64, out: &mut [u64; 3])
+    ensures { λ r. ⌜ now (out .exit) ≡ labelAfter (labelOf word) (now (out .entry)) ⌝ }
+{
+    let label = entries::label_of(word);
+    out[0] = label.level as u64;
+    out[1] = label.token as u64;
+    out[2] = label.position as u64;
 }

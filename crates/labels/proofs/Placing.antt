@@ -1,0 +1,111 @@
+-- One label placed among others, and labels one by one. Assumes nothing.
+use mathlib.Core.Path.{_≡_, refl, ap, sym, _∙_}
+use mathlib.Core.Bool.{Bool, true, false, cond}
+use mathlib.Core.List.{List, [], _∷_, _++_}
+use Prim.Native.Nat.{ℕ, suc, _+_, _/_, _%_, _≤_, _<_}
+use native.Mathlib.Numerals.{add-one}
+use native.Mathlib.Omega.{arith}
+use borrow.Author.Tests.{ne-eqb, eq-eqb}
+use lib.ListN.{length, take, drop, getD, set, drop-of-length-le}
+use lib.Seq.{drop-cons, length-take-le, getD-take}
+use Rattle.tokens.specs.declared.Token.{Token}
+use Rattle.tokens.specs.Tokens.{tokenOf, rawText}
+use Rattle.grammar.specs.Reading.{sameName}
+use Rattle.labels.specs.Labels.{nameOf, isSame, moved, firstSame, placed, merged}
+
+module _ (text s : List ℕ) where
+  -- ---- two labels
+
+  pub other-level : (w v : ℕ) → (w / 1099511627776 ≡ v / 1099511627776 → ⊥) → false ≡ isSame text s w v
+  unfolding isSame
+  other-level w v d = simp (ne-eqb _ _ d)
+
+  pub one-level : (w v : ℕ) → w / 1099511627776 ≡ v / 1099511627776 → isSame text s w v ≡ sameName (nameOf text s w) (nameOf text s v)
+  unfolding isSame
+  one-level w v e = simp (eq-eqb _ _ e)
+
+  pub compared : (w v : ℕ) → w / 1099511627776 ≡ v / 1099511627776 → {a b : Token} {x y : List ℕ} {r : Bool}
+      → a ≡ tokenOf (getD s (w % 1048576) 0) → b ≡ tokenOf (getD s (v % 1048576) 0)
+      → x ≡ rawText text a → y ≡ rawText text b → r ≡ sameName x y → r ≡ isSame text s w v
+  compared w v e ea eb ex ey er =
+      er ∙ (λ i. sameName ((ex ∙ ap (rawText text) ea) i) ((ey ∙ ap (rawText text) eb) i)) ∙ sym (one-level w v e)
+
+  -- ---- one label among others
+
+  -- where it is, it changes; where it is not, it comes behind
+  pub placed-found : (w : ℕ) (l : List ℕ) → firstSame text s w l < length l
+      → placed text s w l ≡ set l (firstSame text s w l) (moved w (getD l (firstSame text s w l) 0))
+  placed-found w [] h = absurd (omega arith)
+  placed-found w (v ∷ vs) h = by (isSame text s w v) h (placed-found w vs)
+    where
+      k : ℕ
+      k = firstSame text s w vs
+
+      by : (t : Bool) → cond t 0 (suc k) < suc (length vs)
+          → (k < length vs → placed text s w vs ≡ set vs k (moved w (getD vs k 0)))
+          → cond t (moved w v ∷ vs) (v ∷ placed text s w vs) ≡ set (v ∷ vs) (cond t 0 (suc k)) (moved w (getD (v ∷ vs) (cond t 0 (suc k)) 0))
+      by true g f = refl
+      by false g f = ap (λ (q : List ℕ). v ∷ q) (f (omega arith))
+
+  pub placed-new : (w : ℕ) (l : List ℕ) → length l ≤ firstSame text s w l → placed text s w l ≡ l ++ w ∷ []
+  placed-new w [] h = refl
+  placed-new w (v ∷ vs) h = by (isSame text s w v) h (placed-new w vs)
+    where
+      k : ℕ
+      k = firstSame text s w vs
+
+      by : (t : Bool) → suc (length vs) ≤ cond t 0 (suc k) → (length vs ≤ k → placed text s w vs ≡ vs ++ w ∷ [])
+          → cond t (moved w v ∷ vs) (v ∷ placed text s w vs) ≡ v ∷ (vs ++ w ∷ [])
+      by true g f = absurd (omega arith)
+      by false g f = ap (λ (q : List ℕ). v ∷ q) (f (omega arith))
+
+  pub record Length (w : ℕ) (l : List ℕ) : Type 0 where
+    pub low : length l ≤ length (placed text s w l)
+    pub high : length (placed text s w l) ≤ suc (length l)
+
+  pub placed-length : (w : ℕ) (l : List ℕ) → Length w l
+  placed-length w [] = record { low = omega arith; high = omega arith }
+  placed-length w (v ∷ vs) =
+      let i = placed-length w vs in
+      record { low = by-low (isSame text s w v) (i .low); high = by-high (isSame text s w v) (i .high) }
+    where
+      by-low : (t : Bool) → length vs ≤ length (placed text s w vs) → suc (length vs) ≤ length (cond t (moved w v ∷ vs) (v ∷ placed text s w vs))
+      by-low true g = omega arith
+      by-low false g = omega arith
+
+      by-high : (t : Bool) → length (placed text s w vs) ≤ suc (length vs) → length (cond t (moved w v ∷ vs) (v ∷ placed text s w vs)) ≤ suc (suc (length vs))
+      by-high true g = omega arith
+      by-high false g = omega arith
+
+  -- ---- labels one by one
+
+  pub merged-append : (out l r : List ℕ) → merged text s out (l ++ r) ≡ merged text s (merged text s out l) r
+  merged-append out [] r = refl
+  merged-append out (w ∷ l) r = merged-append (placed text s w out) l r
+
+  merged-more : (out l : List ℕ) → length (merged text s out l) ≤ length out + length l
+  merged-more out [] = omega arith
+  merged-more out (w ∷ l) = omega (arith, merged-more (placed text s w out) l, placed-length w out .high)
+
+  pub merged-length : (l : List ℕ) → length (merged text s [] l) ≤ length l
+  merged-length l = omega (arith, merged-more [] l)
+
+-- ---- a search among the first m that has come to the label k
+
+module _ (text s : List ℕ) (out : List ℕ) (m w k : ℕ) (so : firstSame text s w (take m out) ≡ k + firstSame text s w (drop k (take m out))) (h : m ≤ length out) where
+  pub not-found : k ≤ m → m ≤ k → m ≡ firstSame text s w (take m out)
+  not-found f g =
+      let n = length-take-le m out h in
+      omega (arith, so, ap (firstSame text s w) (drop-of-length-le (take m out) {i = k} (omega arith)))
+
+  module _ (g : k < m) where
+    here : drop k (take m out) ≡ getD out k 0 ∷ drop (suc k) (take m out)
+    here =
+        let n = length-take-le m out h in
+        drop-cons (take m out) k 0 (omega arith) ∙ ap (λ (v : ℕ). v ∷ drop (suc k) (take m out)) (getD-take m out k 0 g)
+
+    pub found : true ≡ isSame text s w (getD out k 0) → k ≡ firstSame text s w (take m out)
+    found e = sym (so ∙ simp (here, ← e) (omega arith))
+
+    pub on : false ≡ isSame text s w (getD out k 0) → firstSame text s w (take m out) ≡ (k + 1) + firstSame text s w (drop (k + 1) (take m out))
+    on e = so ∙ simp (here, ← e, add-one k) (omega arith)

@@ -1,0 +1,45 @@
+-- Labels brought together. A label's word is its level, its position and its token: level * 2^40 + position * 2^20 + token.
+use mathlib.Core.Path.{_≡_}
+use mathlib.Core.Bool.{Bool, cond, _&&_}
+use mathlib.Core.List.{List, [], _∷_, _++_}
+use Prim.Native.Nat.{ℕ, suc, _+_, _*_, _/_, _%_}
+use lib.Dec.{eqb}
+use lib.ListN.{length, take, drop, getD}
+use Rattle.tokens.specs.Tokens.{tokenOf, rawText}
+use Rattle.grammar.specs.Reading.{sameName}
+
+-- the raw text of the token that a label's word names
+abbrev pub nameOf : List ℕ → List ℕ → ℕ → List ℕ
+nameOf text s w = rawText text (tokenOf (getD s (w % 1048576) 0))
+
+-- one level and one name
+unfoldable pub isSame : List ℕ → List ℕ → ℕ → ℕ → Bool
+isSame text s w v = eqb (w / 1099511627776) (v / 1099511627776) && sameName (nameOf text s w) (nameOf text s v)
+
+-- v at the position of w
+abbrev pub moved : ℕ → ℕ → ℕ
+moved w v = v / 1099511627776 * 1099511627776 + w / 1048576 % 1048576 * 1048576 + v % 1048576
+
+-- the place of the first label that is the same as w, or how many there are
+abbrev pub firstSame : List ℕ → List ℕ → ℕ → List ℕ → ℕ
+firstSame text s w [] = 0
+firstSame text s w (v ∷ vs) = cond (isSame text s w v) 0 (suc (firstSame text s w vs))
+
+-- written again, a label keeps its first place and takes the new position
+abbrev pub placed : List ℕ → List ℕ → ℕ → List ℕ → List ℕ
+placed text s w [] = w ∷ []
+placed text s w (v ∷ vs) = cond (isSame text s w v) (moved w v ∷ vs) (v ∷ placed text s w vs)
+
+abbrev pub merged : List ℕ → List ℕ → List ℕ → List ℕ → List ℕ
+merged text s out [] = out
+merged text s out (w ∷ ws) = merged text s (placed text s w out) ws
+
+-- what `put_label` makes of the first m labels; behind them `out` stays
+pub record Placed (text s : List ℕ) (w m : ℕ) (old new : List ℕ) (r : ℕ) : Type 0 where
+  pub count : r ≡ length (placed text s w (take m old))
+  pub labels : new ≡ placed text s w (take m old) ++ drop (length (placed text s w (take m old))) old
+
+-- what `merge_labels` makes of the words l; behind the labels `out` stays
+pub record Merged (text s l old new : List ℕ) (r : ℕ) : Type 0 where
+  pub count : r ≡ length (merged text s [] l)
+  pub labels : new ≡ merged text s [] l ++ drop (length (merged text s [] l)) old

@@ -1,0 +1,16 @@
+pub mod Trees
+pub mod Places
+pub mod Runs
+pub mod Groups
+pub mod Grouped
+pub mod Ranges
+pub mod Moves
+pub mod Labels
+pub mod Entries
+pub mod Nets
+pub mod Tokens
+pub mod Parse
+pub mod Arranging
+pub mod Counts
+pub mod Asked
+pub mod Filled

@@ -1,0 +1,70 @@
+-- What is in a tree, as words in the order of the text, and what holds of every token in it.
+use mathlib.Core.List.{List, [], _∷_, _++_, map}
+use mathlib.Core.Option.{Option, none, some}
+use Prim.Native.Nat.{ℕ, suc, _+_, _<_}
+use lib.ListN.{length}
+use Rattle.actions.specs.Numbers.{numberOf}
+use Rattle.grammar.specs.Operands.{Lexeme}
+use Rattle.grammar.specs.Grammar.{Items, done, label, action, Blocks, no-blocks, block}
+use Rattle.grammar.specs.Reading.{Owner, Opened, Acted, ownActions, allActions, actionsInside, openedOf, openedIn}
+use Rattle.grammar.proofs.Events.{leading, waiting}
+use Rattle.operands.specs.Log.{placeOf, partNumber}
+use Rattle.tabling.specs.Tabling.{actionWord, operandWord, labelWord, ownerWord}
+
+abbrev pub actedWord : Acted → ℕ
+actedWord l = actionWord (numberOf (l .name)) (l .level)
+
+abbrev pub ownerNumber : Option Owner → ℕ
+ownerNumber none = 0
+ownerNumber (some o) = ownerWord (o .action) (partNumber (o .part))
+
+abbrev pub levelOwner : Opened → ℕ
+levelOwner l = ownerNumber (l .owner)
+
+abbrev pub levelCount : Opened → ℕ
+levelCount l = ownActions (l .items)
+
+abbrev pub entry : ℕ → Lexeme → ℕ
+entry o t = operandWord o (placeOf t)
+
+abbrev mutual
+  -- operands, the next action being a
+  pub givenOf : ℕ → Items → List ℕ
+  givenOf a done = []
+  givenOf a (label t x) = givenOf a x
+  givenOf a (action n os bs x) = givenIn a (suc a) os bs ++ givenOf (suc a + actionsInside bs) x
+
+  pub givenIn : ℕ → ℕ → List Lexeme → Blocks → List ℕ
+  givenIn o a os no-blocks = map (entry o) os
+  givenIn o a os (block p x bs) = map (entry o) (leading p os) ++ (givenOf a x ++ givenIn o (a + allActions x) (waiting p os) bs)
+
+abbrev mutual
+  -- labels of level ℓ and of its blocks, of which the next is level m
+  pub namedOf : ℕ → ℕ → ℕ → Items → List ℕ
+  namedOf ℓ m p done = []
+  namedOf ℓ m p (label t x) = labelWord ℓ p (placeOf t) ∷ namedOf ℓ m p x
+  namedOf ℓ m p (action n os bs x) = namedIn m bs ++ namedOf ℓ (m + length (openedIn 0 0 bs)) (suc p) x
+
+  pub namedIn : ℕ → Blocks → List ℕ
+  namedIn m no-blocks = []
+  namedIn m (block p x bs) = namedOf m (suc m) 0 x ++ namedIn (suc m + length (openedOf 0 x)) bs
+
+-- ---- every token in a tree
+
+abbrev pub All : (Lexeme → Type 0) → List Lexeme → Type 0
+All P [] = Unit {0}
+All P (t ∷ l) = P t × All P l
+
+abbrev mutual
+  pub AllOf : (Lexeme → Type 0) → Items → Type 0
+  AllOf P done = Unit {0}
+  AllOf P (label t x) = P t × AllOf P x
+  AllOf P (action n os bs x) = All P os × (AllIn P bs × AllOf P x)
+
+  pub AllIn : (Lexeme → Type 0) → Blocks → Type 0
+  AllIn P no-blocks = Unit {0}
+  AllIn P (block p x bs) = AllOf P x × AllIn P bs
+
+-- every place is within its word
+abbrev pub IsLow : Lexeme → Type 0
+IsLow t = placeOf t < 1048576
