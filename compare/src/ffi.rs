@@ -14,7 +14,7 @@ mod c {
         ) -> u64;
         pub fn pcode_action(word: u64, out: *mut u64);
         pub fn pcode_operand(word: u64, out: *mut u64);
-        pub fn pcode_level(word: u64, out: *mut u64, net: *mut i64);
+        pub fn pcode_level(word: u64, out: *mut u64, height: *mut i64);
         pub fn pcode_label(word: u64, out: *mut u64);
     }
 }
@@ -115,9 +115,9 @@ pub struct Level {
 }
 
 pub fn level(word: u64) -> Level {
-    let (mut out, mut net) = ([0u64; 4], [0i64; 1]);
-    unsafe { c::pcode_level(word, out.as_mut_ptr(), net.as_mut_ptr()) };
-    let net = if out[3] == 0 { Ok(net[0]) } else { Err(net[0]) };
+    let (mut out, mut height) = ([0u64; 5], [0i64; 1]);
+    unsafe { c::pcode_level(word, out.as_mut_ptr(), height.as_mut_ptr()) };
+    let net = if out[3] == 0 { Ok(height[0]) } else { Err(out[4] as i64) };
     Level { block: out[0], owner: out[1] as usize, actions: out[2] as usize, net }
 }
 

@@ -1,10 +1,15 @@
 -- What the calls for C return and write.
+use mathlib.Core.Path.{_≡_}
 use mathlib.Core.List.{List}
 use Prim.Native.Nat.{ℕ}
 use lib.IntN.{ℤ, pos}
 use lib.ListN.{set}
 use Rattle.actions.specs.Numbers.{numberOf}
 use Rattle.answers.specs.Answers.{Answer, accepted, refused}
+use Rattle.answers.specs.Answers as A
+use Rattle.as2_pcode.specs.declared.Reading.{Reading}
+use Rattle.as2_pcode.specs.declared.Reading.the-variants as R
+use Rattle.as2_pcode.specs.Reading.{Tables, Reads}
 use Rattle.entries.specs.declared.Action.{Action}
 use Rattle.entries.specs.declared.Operand.{Operand}
 use Rattle.entries.specs.declared.Block.{Block}
@@ -124,3 +129,23 @@ heightAfter l old = set old 0 (netHeight (l .net))
 
 abbrev pub labelAfter : Label → List ℕ → List ℕ
 labelAfter l old = set (set (set old 0 (l .level)) 1 (l .token)) 2 (l .position)
+
+-- ---- the reading call
+
+-- 0, or the number of the refusal
+abbrev pub readNumber : Reading → ℕ
+readNumber (R.Read c) = 0
+readNumber (R.Refused r) = A.numberOf r
+
+-- the five counts, or the place of the refusal
+abbrev pub readAfter : Reading → List ℕ → List ℕ
+readAfter (R.Read c) old =
+    set (set (set (set (set old 0 (c .tokens)) 1 (c .actions)) 2 (c .operands)) 3 (c .levels)) 4 (c .labels)
+readAfter (R.Refused r) old = set old 0 (A.placeOf r)
+
+-- what reading answers, told to C: the tables x have become y, and `old` has become `new`
+pub record ReadFor (text : List ℕ) (x y : Tables) (old new : List ℕ) (n : ℕ) : Type 0 where
+  pub answer : Reading
+  pub reads : Reads text x y answer
+  pub number : n ≡ readNumber answer
+  pub out : new ≡ readAfter answer old

@@ -1,6 +1,7 @@
 // The calls for C and Rust, as include/pcode.h documents them. Each only calls a public function.
 // A slice passes as a pointer and a length; an answer is a refusal's number, or 0, and what it carries goes to `out`.
 use answers::Refusal;
+use as2_pcode::Reading;
 use entries::Block;
 use entries::Net;
 use lexer::Lexing;
@@ -13,12 +14,13 @@ ghost use mathlib.Core.Path.{_≡_};
 ghost use lib.ListN.{length, set};
 ghost use Rattle.actions.specs.Numbers.{actionAt};
 ghost use Rattle.answers.specs.Answers.{numberOf, placeOf};
+ghost use Rattle.as2_pcode.specs.Reading.{lent};
 ghost use Rattle.tokens.specs.Tokens.{span, tokenOf, within};
 ghost use Rattle.entries.specs.Entries.{actionOf, operandOf, levelOf, labelOf};
 ghost use Rattle.lexer.specs.Lexing.{counted, lexText, tableAfter};
 ghost use Rattle.pcode.specs.Deltas.{deltaAnswer};
 ghost use Rattle.values.specs.Values.{valueAnswer};
-ghost use Rattle.pcode_c.specs.Boundary.{returned, told, tokenAfter, boundsAfter, deltaAfter, valueWith, fieldsOf, tokenWith, integerAfter, outAfter, actionAfter, operandAfter, blockPart, blockAction, netKind, netAction, netHeight, levelAfter, heightAfter, labelAfter};
+ghost use Rattle.pcode_c.specs.Boundary.{ReadFor, returned, told, tokenAfter, boundsAfter, deltaAfter, valueWith, fieldsOf, tokenWith, integerAfter, outAfter, actionAfter, operandAfter, blockPart, blockAction, netKind, netAction, netHeight, levelAfter, heightAfter, labelAfter};
 
 fn refused(r: Refusal, out: &mut [u64; 1]) -> u64
     ensures { λ n. ⌜ n ≡ numberOf r ⌝ }
@@ -256,4 +258,34 @@ pub extern "C" fn pcode_label(word: u64, out: &mut [u64; 3])
     out[0] = label.level as u64;
     out[1] = label.token as u64;
     out[2] = label.position as u64;
+}
+
+// ---- reading
+
+#[no_mangle]
+pub extern "C" fn pcode_read(
+    text: &[u8],
+    tokens: &mut [u64],
+    actions: &mut [u64],
+    operands: &mut [u64],
+    levels: &mut [u64],
+    labels: &mut [u64],
+    out: &mut [u64; 5],
+) -> u64
+    ensures { λ r. ⌜ ReadFor (now (text .entry)) (lent (now (tokens .entry)) (now (actions .entry)) (now (operands .entry)) (now (levels .entry)) (now (labels .entry))) (lent (now (tokens .exit)) (now (actions .exit)) (now (operands .exit)) (now (levels .exit)) (now (labels .exit))) (now (out .entry)) (now (out .exit)) r ⌝ }
+{
+    match as2_pcode::read(text, tokens, actions, operands, levels, labels) {
+        Reading::Read(c) => {
+            out[0] = c.tokens as u64;
+            out[1] = c.actions as u64;
+            out[2] = c.operands as u64;
+            out[3] = c.levels as u64;
+            out[4] = c.labels as u64;
+            0
+        }
+        Reading::Refused(r) => {
+            out[0] = answers::refusal_place(r) as u64;
+            answers::refusal_number(r)
+        }
+    }
 }
