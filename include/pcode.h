@@ -7,7 +7,10 @@
  *   3  an opening quote directly before a line feed or the end; the place is the quote's byte
  *   4  an unclosed string whose last character is over one byte; the place is the quote's byte
  *   5  a token table with too few places; the place is the number of tokens
- *   6  a token without a value
+ *   6  reading: not in the grammar; the place is the first token that no text could have after those before it, or the number of
+ *      tokens where the text merely ends early. pcode_value: a token without a value, at 0
+ *   7  a block opens while 64 are open; the place is the token of its brace
+ *   8  a table with too few places; the place is 0 for actions, 1 operands, 2 levels, 3 labels, the lowest
  *   9  an action whose delta is undetermined
  * A refusal changes no table. Every call is proved to return and write what is told here.
  */
@@ -20,6 +23,14 @@
 
 /* All tokens of a text, a word each, at the front of the table. out[0]: their number, or the refusal's place. */
 uint64_t pcode_lex(const uint8_t *text, size_t text_len, uint64_t *table, size_t table_len, uint64_t out[1]);
+
+/* Reads a text: its tokens, actions, operands, levels and labels, a word each, at the front of the lent tables; what stands behind
+ * them stays. out[0] to out[4]: how many tokens, actions, operands, levels and labels there are. Refusals 1 to 8: out[0] is the
+ * place, and nothing else is written. Tables with a place for each byte of the text, and one more for the levels, are never too
+ * short. Takes up to 4.7 MB of stack, whatever the text. */
+uint64_t pcode_read(const uint8_t *text, size_t text_len, uint64_t *tokens, size_t tokens_len, uint64_t *actions,
+                    size_t actions_len, uint64_t *operands, size_t operands_len, uint64_t *levels, size_t levels_len,
+                    uint64_t *labels, size_t labels_len, uint64_t out[5]);
 
 /* The token of a table word. out[0]: its kind, 65,536 times the place in TokenKind (0 Newline, 1 String, 2 Float,
  * 3 Integer, 4 Register, 5 Constant, 6 ActionName, 7 Identifier, 8 Colon, 9 Comma, 10 OpenBrace, 11 CloseBrace, 12 True,
