@@ -1,26 +1,23 @@
 -- `hand_over`: row 8, or the tables of the reading. Assumes nothing.
 use mathlib.Core.Path.{_≡_, refl, sym, ap, _∙_, subst}
 use mathlib.Core.List.{List, [], _∷_, _++_, map}
-use Prim.Native.Nat.{ℕ, zero, suc, _+_, _≤_, _<_}
+use Prim.Native.Nat.{ℕ, _+_, _≤_, _<_}
 use native.Mathlib.Omega.{arith}
 use lib.ListN.{length, take, drop, getD, length-map, length-take}
 use lib.Seq.{take-length}
-use Rattle.answers.specs.Answers.{accepted, refused}
 use Rattle.answers.specs.declared.Refusal.the-variants as F
 use Rattle.tokens.specs.declared.Token.{Token}
 use Rattle.tokens.specs.Tokens.{wordOf}
 use Rattle.grammar.specs.Grammar.{Items}
-use Rattle.grammar.specs.Operands.{numbered}
 use Rattle.grammar.specs.Reading.{readingOf, opened, labelsFrom}
 use Rattle.grammar.specs.Nets.{nets}
-use Rattle.grammar.specs.Refusals.{Answers, entries, Short, row₈, fits}
+use Rattle.grammar.specs.Refusals.{entries, row₈, fits}
 use Rattle.tabling.specs.declared.State.{State}
 use Rattle.reading.specs.Tables.{front, labelEntryWord, labelWords}
-use Rattle.reading.specs.Told.{Known, Logged, Arranged, Filled, Fillable, Fills}
+use Rattle.reading.specs.Told.{Filled, Fillable, Fills}
 use Rattle.reading.proofs.Filled.{actions-counted, operands-counted, levels-counted, labels-counted}
-use Rattle.as2_pcode.specs.declared.Counts.{Counts}
 use Rattle.as2_pcode.specs.declared.Reading.the-variants as R
-use Rattle.as2_pcode.specs.Reading.{Tables, places, filled, counted, Accepts, Reads, lent}
+use Rattle.as2_pcode.specs.Reading.{Tables, places, filled, Reads, lent}
 use Rattle.as2_pcode.specs.Scratch.{lowestShort, Ready}
 use Rattle.as2_pcode.proofs.Rows.{Lowest, found, none}
 

@@ -1,13 +1,10 @@
 -- `read_in`: scratch that has a place for each byte has one for each entry. Assumes nothing.
-use mathlib.Core.Path.{_≡_}
 use mathlib.Core.List.{List}
-use Prim.Native.Nat.{ℕ, suc, _+_, _≤_, _<_}
+use Prim.Native.Nat.{ℕ, _+_, _≤_}
 use native.Mathlib.Omega.{arith}
 use lib.ListN.{length, replicate, length-replicate}
 use Rattle.tabling.specs.declared.State.{State}
-use Rattle.tabling.specs.Tabling.{Rooms}
-use Rattle.parser.specs.Parsed.{logOf}
-use Rattle.reading.specs.Told.{Logged, Arranged, Arranges, Arrangeable}
+use Rattle.reading.specs.Told.{Logged, Arranges, Arrangeable}
 use Rattle.reading.proofs.Counts.{tree-few}
 use Rattle.as2_pcode.specs.Scratch.{Ready, Roomy}
 

@@ -22,7 +22,7 @@ use Rattle.tokens.specs.declared.Span.{Span}
 use Rattle.tokens.specs.declared.Token.{Token}
 use Rattle.tokens.specs.Kinds.{kindNumber, kindOf}
 use Rattle.tokens.specs.Tokens.{span}
-use Rattle.values.specs.Values.{bitsOf, valueAnswer}
+use Rattle.values.specs.Values.{bitsOf}
 use Rattle.pcode_c.specs.declared.ValueFields.{ValueFields}
 use Rattle.values.specs.declared.PushValue.{PushValue}
 use Rattle.values.specs.declared.PushValue.the-variants as P

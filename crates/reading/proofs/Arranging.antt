@@ -1,14 +1,13 @@
 -- `arrange` and `arrange_labels`: a tree's log leads to the words of its tables. Assumes nothing.
 use mathlib.Core.Path.{_≡_, sym, ap, subst, _∙_}
 use mathlib.Core.List.{List, [], _∷_, map}
-use Prim.Native.Nat.{ℕ, suc, _+_, _≤_, _<_}
+use Prim.Native.Nat.{ℕ, suc, _≤_, _<_}
 use native.Mathlib.Nat.{zero-add}
 use native.Mathlib.Omega.{arith}
-use lib.ListN.{length, take, drop, length-append, length-map}
+use lib.ListN.{length, take, drop, length-map}
 use lib.Seq.{length-take-le, take-length, take-at}
-use Rattle.grammar.specs.Grammar.{Items, done, label, action, Blocks, no-blocks, block}
-use Rattle.grammar.specs.Reading.{ownActions, allActions, actionsInside, openedOf, openedIn, opened, actedOf, labelsFrom}
-use Rattle.grammar.proofs.Sizes.{size, sizes}
+use Rattle.grammar.specs.Grammar.{Items, action}
+use Rattle.grammar.specs.Reading.{ownActions, allActions, openedOf, opened, actedOf, labelsFrom}
 use Rattle.grammar.proofs.Unique.{events}
 use Rattle.grouping.specs.Grouping.{Below, grouped, Grouped}
 use Rattle.grouping.proofs.Keys.{last-start}

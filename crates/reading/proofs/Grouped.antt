@@ -1,19 +1,16 @@
 -- What grouping makes of a tree's operands and labels. Assumes nothing.
-use mathlib.Core.Path.{_≡_, refl, sym, ap, _∙_}
-use mathlib.Core.List.{List, [], _∷_, _++_, map}
+use mathlib.Core.Path.{_≡_, _∙_}
+use mathlib.Core.List.{List, []}
 use mathlib.Core.Option.{none}
-use Prim.Native.Nat.{ℕ, zero, suc, _+_, _≤_, _<_}
-use native.Mathlib.Nat.{le-refl}
+use Prim.Native.Nat.{ℕ, _≤_, _<_}
 use native.Mathlib.Omega.{arith}
 use lib.ListN.{length, take}
 use Rattle.names.specs.declared.ActionName.the-variants as A
-use Rattle.grammar.specs.Operands.{Lexeme}
 use Rattle.grammar.specs.Grammar.{Items, done}
-use Rattle.grammar.specs.Reading.{Opened, Acted, Operand, ownActions, allActions, openedOf, opened, actedOf, operandsFrom}
+use Rattle.grammar.specs.Reading.{Opened, Acted, allActions, opened, actedOf}
 use Rattle.grouping.specs.Grouping.{Below, having, grouped}
-use Rattle.operands.specs.Log.{placeOf}
-use Rattle.reading.specs.Trees.{AllOf, entry, givenOf, namedOf, IsLow}
-use Rattle.reading.proofs.Runs.{Every, runs, runs-high, run-at, grouped-same, grouped-runs, grouped-all, all-below}
+use Rattle.reading.specs.Trees.{AllOf, givenOf, namedOf, IsLow}
+use Rattle.reading.proofs.Runs.{Every, runs, runs-high, grouped-same, grouped-runs, grouped-all, all-below}
 use Rattle.reading.proofs.Trees.{acted-count}
 use Rattle.reading.proofs.Groups.{operandRun, labelRun, GivenLow, NamedLow, operands-own, labels-own, acted-all, opened-low, own-few, givens-alike, names-alike}
 

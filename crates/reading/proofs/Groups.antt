@@ -2,15 +2,15 @@
 use mathlib.Core.Path.{_≡_, refl, sym, ap, _∙_}
 use mathlib.Core.List.{List, [], _∷_, _++_, map, append-assoc, append-nil}
 use mathlib.Core.Logic.{_⊎_, inl, inr}
-use Prim.Native.Nat.{ℕ, zero, suc, _+_, _*_, _/_, _≤_, _<_}
+use Prim.Native.Nat.{ℕ, suc, _+_, _≤_, _<_}
 use native.Mathlib.Decide.{ℕ-discrete}
 use native.Mathlib.Omega.{arith}
-use lib.ListN.{length, take}
+use lib.ListN.{length}
 use Rattle.grammar.specs.Operands.{Lexeme}
 use Rattle.grammar.specs.Grammar.{Part, body, try, catch, finally, Items, done, label, action, Blocks, no-blocks, block}
 use Rattle.grammar.specs.Reading.{Opened, Acted, ownActions, allActions, actionsInside, openedOf, openedIn, actedOf, actedIn}
 use Rattle.grammar.proofs.Events.{leading, waiting}
-use Rattle.grouping.specs.Grouping.{keyOf, having, grouped}
+use Rattle.grouping.specs.Grouping.{having, grouped}
 use Rattle.operands.specs.Log.{placeOf}
 use Rattle.tabling.specs.Tabling.{labelWord}
 use Rattle.reading.specs.Trees.{All, AllOf, AllIn, entry, givenOf, givenIn, namedOf, namedIn, IsLow}

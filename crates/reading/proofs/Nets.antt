@@ -15,7 +15,7 @@ use Rattle.pcode.specs.Deltas.{deltaOf}
 use Rattle.grammar.specs.Operands.{Lexeme}
 use Rattle.grammar.specs.Grammar.{Items, done, label, action, Blocks, no-blocks, block}
 use Rattle.grammar.specs.Reading.{Opened, Acted, allActions, actionsInside, opened, openedOf, openedIn, actedOf, actedIn}
-use Rattle.grammar.specs.Nets.{Net as TreeNet, height, undetermined, nameIsEmpty, moved, netFrom, nets}
+use Rattle.grammar.specs.Nets.{height, nameIsEmpty, moved, netFrom, nets}
 use Rattle.nets.specs.Nets.{Move, movedBy, netAfter}
 use Rattle.reading.specs.Tables.{netEntry}
 use Rattle.reading.proofs.Trees.{opened-count, opened-counts, acted-count, acted-counts}

@@ -1,12 +1,12 @@
 -- `parse_text`: rows 3 to 7, and the tree of a text that has a reading. Assumes nothing.
 use mathlib.Core.Path.{_≡_, refl, sym, ap, _∙_, subst}
 use mathlib.Core.Bool.{true, false}
-use mathlib.Core.List.{List, [], _∷_, _++_, map, append-assoc}
-use Prim.Native.Nat.{ℕ, suc, _+_, _≤_, _<_}
+use mathlib.Core.List.{List, _++_, map, append-assoc}
+use Prim.Native.Nat.{ℕ, _+_, _≤_, _<_}
 use native.Mathlib.Omega.{arith}
 use lib.Dec.{ltb}
-use lib.ListN.{length, take, drop, getD, length-append, length-map}
-use lib.Seq.{take-append-seam, length-take-le}
+use lib.ListN.{length, take, drop, length-append, length-map}
+use lib.Seq.{take-append-seam}
 use borrow.Author.Tests.{lt-ltb, le-ltb}
 use Rattle.answers.specs.Answers.{Answer, accepted, refused, refusal, numberOf, placeOf}
 use Rattle.answers.specs.declared.Refusal.{Refusal}
@@ -18,17 +18,17 @@ use Rattle.tokens.specs.declared.Token.{Token}
 use Rattle.tokens.specs.Tokens.{wordOf}
 use Rattle.utf8.specs.Utf8.{validUpTo}
 use Rattle.grammar.specs.Operands.{Lexeme, numbered}
-use Rattle.grammar.specs.Grammar.{Items, Text}
-use Rattle.grammar.specs.Reading.{Reading, readingOf}
+use Rattle.grammar.specs.Grammar.{Text}
+use Rattle.grammar.specs.Reading.{readingOf}
 use Rattle.grammar.specs.Refusals.{Outcome, Answers, rows₁₋₅, rows₆₋₇}
-use Rattle.grammar.proofs.Sizes.{size, fits-size}
+use Rattle.grammar.proofs.Sizes.{fits-size}
 use Rattle.operands.specs.declared.At.{At}
 use Rattle.operands.specs.declared.Step.the-variants.{To, Bad, Deep}
 use Rattle.operands.specs.Lexemes.{lexemes, Sound}
 use Rattle.operands.proofs.Places.{lexemes-length}
 use Rattle.parser.specs.Parsed as P
 use Rattle.parser.specs.Parsed.{logOf, Parsed}
-use Rattle.reading.specs.Told.{Of, Known, Logged}
+use Rattle.reading.specs.Told.{Of, Logged}
 use Rattle.reading.proofs.Places.{text-all}
 use Rattle.reading.proofs.Tokens.{lexemes-numbered, words-sound, all-of}
 

@@ -1,23 +1,22 @@
 -- The tables that the events of a tree lead to. Assumes nothing.
-use mathlib.Core.Path.{_≡_, refl, sym, ap, subst, _∙_}
+use mathlib.Core.Path.{_≡_, refl, sym, ap, _∙_}
 use mathlib.Core.List.{List, [], _∷_, _++_, map, append-assoc, append-nil}
-use mathlib.Core.Option.{Option, none, some}
-use Prim.Native.Nat.{ℕ, zero, suc, _+_, _*_, _/_, _%_, _≤_, _<_}
+use Prim.Native.Nat.{ℕ, suc, _+_, _*_, _/_, _%_, _≤_, _<_}
 use native.Mathlib.Omega.{arith}
 use lib.ListN.{length, getD, set, length-append, length-map, length-set, List·getD-append}
-use lib.Seq.{set-set, set-getD, set-append-left, set-append-seam, getD-append-seam, getD-set-same, getD-at, set-at}
+use lib.Seq.{set-set, set-getD, set-append-left, getD-append-seam, getD-set-same, getD-at, set-at}
 use Rattle.names.specs.declared.ActionName.{ActionName}
 use Rattle.actions.specs.Numbers.{numberOf}
 use Rattle.actions.proofs.Numbers.{number-below}
 use Rattle.grammar.specs.Operands.{Lexeme}
 use Rattle.grammar.specs.Grammar.{Part, body, try, catch, finally, Items, done, label, action, Blocks, no-blocks, block}
-use Rattle.grammar.specs.Reading.{Owner, Opened, Acted, ownActions, allActions, actionsInside, openedOf, openedIn, actedOf, actedIn}
+use Rattle.grammar.specs.Reading.{ownActions, allActions, actionsInside, openedOf, openedIn, actedOf, actedIn}
 use Rattle.grammar.proofs.Events.{Event, leading, waiting}
 use Rattle.grammar.proofs.Events as E
 use Rattle.grammar.proofs.Unique.{events, block-events, givens}
 use Rattle.operands.specs.Log.{placeOf, partNumber, logWord, eventWord}
-use Rattle.reading.specs.Trees.{All, AllOf, AllIn, IsLow, actedWord, ownerNumber, levelOwner, levelCount, entry, givenOf, givenIn, namedOf, namedIn}
-use Rattle.tabling.specs.Tabling.{Tables, actionWord, operandWord, labelWord, ownerWord, levelOf, ownerOf, acted, named, given, opened, closed, by, step, steps, start}
+use Rattle.reading.specs.Trees.{All, AllOf, AllIn, IsLow, actedWord, levelOwner, levelCount, entry, givenOf, givenIn, namedOf, namedIn}
+use Rattle.tabling.specs.Tabling.{Tables, actionWord, labelWord, ownerWord, levelOf, ownerOf, acted, named, given, opened, closed, by, step, steps, start}
 
 -- the last action of a level, if it has one
 abbrev pub lastOf : ℕ → ℕ → Items → ℕ

@@ -1,6 +1,6 @@
 -- What leads from a text to the tables of its reading: its tokens and the log of its tree, then its tables, then the lent ones.
 use mathlib.Core.Path.{_≡_}
-use mathlib.Core.List.{List, [], _∷_, _++_, map}
+use mathlib.Core.List.{List, _∷_, map}
 use Prim.Native.Nat.{ℕ, suc, _≤_, _<_}
 use lib.ListN.{length, take, getD}
 use Rattle.answers.specs.Answers.{accepted, refusal}

@@ -8,7 +8,7 @@ use native.Mathlib.Omega.{arith}
 use lib.ListN.{length, take, getD, set, List·getD-append, List·getD-eq-default, length-append, length-set}
 use lib.Seq.{take-suc, take-suc-set, getD-set-same, getD-set-other, set-out, getD-append-seam, length-take-le}
 use Rattle.tabling.specs.declared.State.{State}
-use Rattle.tabling.specs.Tabling.{Tables, acted, named, given, opened, closed, by, step, steps, start, view, Sane, AllSane, Small, Next, Room, Rooms}
+use Rattle.tabling.specs.Tabling.{Tables, acted, named, given, opened, closed, by, step, steps, start, view, Small, Next, Room, Rooms}
 
 -- ---- no count is above the number of words
 

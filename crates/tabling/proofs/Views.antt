@@ -8,7 +8,7 @@ use native.Mathlib.Omega.{arith}
 use lib.ListN.{length, take, getD, set, length-take, List·getD-eq-default}
 use lib.Seq.{take-set-lt, take-set-le, take-suc-set, set-out, length-take-le, getD-take}
 use Rattle.tabling.specs.declared.State.{State}
-use Rattle.tabling.specs.Tabling.{Tables, actionWord, operandWord, labelWord, ownerWord, acting, naming, giving, opening, closing, acted, named, given, opened, closed, by, step, view, Small, Next, Room, Sane}
+use Rattle.tabling.specs.Tabling.{Tables, actionWord, operandWord, labelWord, ownerWord, acting, naming, giving, opening, closing, acted, named, given, opened, closed, by, step, view, Small, Next}
 
 -- ---- lists
 

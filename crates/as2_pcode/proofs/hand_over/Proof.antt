@@ -1,8 +1,6 @@
 -- `as2_pcode::hand_over` meets its contract. Assumes nothing.
 use borrow.Author.Needs.{needs}
-use mathlib.Core.Path.{_≡_}
 use native.Mathlib.Omega.{arith}
-use lib.ListN.{length}
 use Rattle.as2_pcode.proofs.Hand as laws
 use Rattle.as2_pcode.proofs.hand_over.Statement.{statement}
 use Rattle.as2_pcode.proofs.hand_over.Tie as tie

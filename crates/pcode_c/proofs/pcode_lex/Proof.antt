@@ -1,6 +1,6 @@
 -- `pcode_c::pcode_lex` meets its contract. Assumes nothing.
 use borrow.Author.Needs.{needs}
-use mathlib.Core.Path.{_≡_, sym, ap, _∙_}
+use mathlib.Core.Path.{sym, ap, _∙_}
 use lib.ListN.{set}
 use Rattle.lexer.specs.Lexing.{answer}
 use Rattle.pcode_c.specs.Boundary.{returned, told}

@@ -1,7 +1,5 @@
 -- `tabling::add` meets its contract. Assumes nothing.
 use borrow.Author.Needs.{needs}
-use mathlib.Core.Path.{refl}
-use native.Mathlib.Omega.{arith}
 use Rattle.laws.proofs.Rest.{rest}
 use Rattle.tabling.proofs.Views.{arm, rest-arm, act-view, name-view, give-view, open-view, close-view, act-next, name-next, give-next, open-next, close-next}
 use Rattle.tabling.proofs.add.Statement.{statement}
