@@ -12,6 +12,7 @@
 //!   compare ORACLE reading boundary               the sizes around 65,536 bytes, and as many entries as can be
 //!   compare ORACLE reading all COUNT SEED         all of these, deep with a fifth of COUNT
 //!   compare ORACLE sample FILE COUNT SEED         the oracle's answers in FILE1, FILE2, .. of 65,536 bytes, for crates/lex_replay
+//!   compare ORACLE sample-reading FILE COUNT SEED  the same for reading, for crates/read_replay, and what that program is to print
 //!   compare ordinary FILE SIZE SEED               an ordinary patch of about that many bytes
 //!   compare bench FILE SECONDS                    lexing speed on one text
 
@@ -22,6 +23,7 @@ mod patches;
 mod places;
 mod reading;
 mod recogniser;
+mod sampling;
 mod texts;
 mod values;
 
@@ -315,6 +317,10 @@ fn main() {
         [oracle, "reading", mode, ref more @ ..] => read(oracle, mode, more),
         [oracle, "sample", file, count, seed] => {
             sample(oracle, file, count.parse().expect("a count"), seed.parse().expect("a seed"));
+            0
+        }
+        [oracle, "sample-reading", file, count, seed] => {
+            sampling::sample(oracle, file, count.parse().expect("a count"), seed.parse().expect("a seed"));
             0
         }
         [oracle, mode, ..] => compare(oracle, mode, &args[2..]),

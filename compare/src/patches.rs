@@ -249,7 +249,21 @@ pub fn edits(count: usize) -> impl Iterator<Item = Vec<u8>> {
     })
 }
 
-fn nested(blocks: usize) -> String {
+/// Every form of Try: its target, its parts, with one newline or more between them, an empty body or one with a label and actions.
+pub fn tries() -> impl Iterator<Item = Vec<u8>> {
+    let targets = ["", "\"e\" ", "\"\" ", "register3 "];
+    let parts = [&[][..], &["catch"], &["finally"], &["catch", "finally"], &["finally", "catch"]];
+    let bodies = ["{}", "{\nin: Pop\nin: CallMethod\nAdd\nStartDrag\n}", "{ Try \"x\" {}\ncatch {}\n}"];
+    let newlines = ["\n", "\r\n\n", " "];
+    (0..4 * 5 * 3 * 3).map(move |i| {
+        let (body, newline) = (bodies[i / 20 % 3], newlines[i / 60]);
+        let mut s = format!("Try {}{body}", targets[i % 4]);
+        parts[i / 4 % 5].iter().for_each(|part| s += &format!("{newline}{part} {body}"));
+        (s + "\nAdd").into_bytes()
+    })
+}
+
+pub fn nested(blocks: usize) -> String {
     "With {".repeat(blocks) + &"}\n".repeat(blocks)
 }
 

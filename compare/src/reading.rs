@@ -59,7 +59,7 @@ fn roomy(text: &[u8]) -> [usize; 5] {
 }
 
 /// The first brace, of tokens that begin a grammatical list, that opens a block too many.
-fn too_deep(tokens: &[Token]) -> Option<usize> {
+pub fn too_deep(tokens: &[Token]) -> Option<usize> {
     let mut open = 0;
     for (i, t) in tokens.iter().enumerate() {
         match t.place() {
@@ -250,7 +250,7 @@ fn refused_with(ours: &Answer, expected: (u64, u64)) -> Result<(), String> {
 
 /// The operand tokens behind each action word, up to the end of its line or its first brace: in a text that is read, every
 /// action word is an action, and there only commas are no operands.
-fn operands_of_tokens(tokens: &[Token]) -> Vec<Vec<usize>> {
+pub fn operands_of_tokens(tokens: &[Token]) -> Vec<Vec<usize>> {
     let words = (0..tokens.len()).filter(|i| tokens[*i].place() == ACTION);
     let ends = |t: &Token| [NEWLINE, OPEN, CLOSE].contains(&t.place());
     let line = |word: usize| (word + 1..tokens.len()).take_while(|i| !ends(&tokens[*i]));
@@ -276,8 +276,9 @@ fn compare_operands(reading: &Reading, told: &Told) -> Result<(), String> {
     Ok(())
 }
 
-/// A label's token is where its name is first written in its level; levels are numbered as their brace opens.
-fn compare_labels(text: &[u8], reading: &Reading, tokens: &[Token]) -> Result<(), String> {
+/// The level and the token of each label, by level and order: where its name is first written in its level. Levels are numbered as
+/// their brace opens.
+pub fn labels_of_tokens(text: &[u8], tokens: &[Token]) -> Result<Vec<(usize, usize)>, String> {
     let (mut open, mut levels, mut names) = (vec![0], 1, HashSet::new());
     let mut first: Vec<(usize, usize)> = Vec::new();
     for (i, t) in tokens.iter().enumerate() {
@@ -298,6 +299,11 @@ fn compare_labels(text: &[u8], reading: &Reading, tokens: &[Token]) -> Result<()
     }
     // stable: the labels of a level stay in their order
     first.sort_by_key(|(level, _)| *level);
+    Ok(first)
+}
+
+fn compare_labels(text: &[u8], reading: &Reading, tokens: &[Token]) -> Result<(), String> {
+    let first = labels_of_tokens(text, tokens)?;
     let held = reading.labels.iter().map(|w| ffi::label(*w)).map(|(level, token, _)| (level, token));
     if !held.eq(first.iter().copied()) {
         return Err(format!("the labels are not first written at {first:?}"));

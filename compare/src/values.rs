@@ -41,7 +41,7 @@ fn written(text: &[u8], v: &Value) -> String {
 }
 
 /// Whether document 01 makes this number Long: digits over 2^53, or a power of ten outside -22 to 22.
-fn outside(literal: &str) -> bool {
+pub fn outside(literal: &str) -> bool {
     let (mantissa, exponent) = match literal.split_once(['e', 'E']) {
         Some((m, e)) => (m, e.parse::<i128>().unwrap_or(if e.starts_with('-') { i128::MIN / 2 } else { i128::MAX / 2 })),
         None => (literal, 0),

@@ -1,0 +1,541 @@
+// Document 01's bench texts, the starred ones too, its traps at the door and its rows on tables: a line for each, with
+// the text and what reading answers. Its `stdout` is typed from document 01.
+use as2_pcode::Counts;
+use as2_pcode::Reading;
+use libc::STDOUT_FILENO;
+use numbers::Natural;
+use printing::print_bits;
+use printing::print_number;
+use printing::print_refusal;
+use printing::print_signed;
+use printing::print_text;
+use tokens::Token;
+use values::PushValue;
+use values::TokenValue;
+ghost use Prim.Native.Nat.{_≤_};
+
+// ---- the text of a line
+
+// What a terminal would not show is written as in Rust.
+fn print_byte(b: u8) {
+    if b == 10 {
+        print_text(b"\\n");
+        return;
+    }
+    if b < 32 {
+        print_escape(b);
+        return;
+    }
+    if 126 < b {
+        print_escape(b);
+        return;
+    }
+    let one = [b];
+    print_text(&one);
+}
+
+fn print_escape(b: u8) {
+    print_text(b"\\x");
+    io::print_hex(STDOUT_FILENO, b as u64, 2);
+}
+
+fn print_bytes(text: &[u8]) {
+    let mut i = 0;
+    while i < text.len() {
+        print_byte(text[i]);
+        i += 1;
+    }
+}
+
+fn print_head(text: &[u8]) {
+    if text.len() == 0 {
+        print_text(b"empty");
+    }
+    print_bytes(text);
+    print_text(b": ");
+}
+
+// ---- what reading answers
+
+// The whole number that a double is, if it is one.
+fn whole(x: f64) -> Natural {
+    if x > -1.0 {
+        if x < 18446744073709551616.0 {
+            let n = std::num::truncating_f64_to_u64(x);
+            if 9007199254740992 < n {
+                return Natural::Nothing;
+            }
+            if n as f64 == x {
+                return Natural::Is(n);
+            }
+        }
+    }
+    Natural::Nothing
+}
+
+// Minus zero by its sign, which no comparison shows; a whole number in digits; any other double by its bits.
+fn print_double(x: f64) {
+    let bits = values::bits_of(x);
+    if bits == 0x8000_0000_0000_0000 {
+        print_text(b"-0");
+        return;
+    }
+    match whole(x) {
+        Natural::Is(n) => print_number(n),
+        Natural::Nothing => print_bits(bits),
+    }
+}
+
+fn print_case(v: PushValue) {
+    match v {
+        PushValue::Null => print_text(b"null"),
+        PushValue::Undefined => print_text(b"undefined"),
+        PushValue::String(_) => print_text(b"string "),
+        PushValue::Integer(_) => print_text(b"integer "),
+        PushValue::Float(_) => print_text(b"double "),
+        PushValue::True => print_text(b"true"),
+        PushValue::False => print_text(b"false"),
+        PushValue::Register(_) => print_text(b"register "),
+        PushValue::Constant(_) => print_text(b"constant "),
+        PushValue::Long(_) => print_text(b"long "),
+    }
+}
+
+fn print_held(raw: &[u8], v: PushValue) {
+    match v {
+        PushValue::String(_) => print_bytes(raw),
+        PushValue::Integer(n) => print_signed(n),
+        PushValue::Float(x) => print_double(x),
+        PushValue::Register(n) => print_number(n as u64),
+        PushValue::Constant(n) => print_number(n as u64),
+        PushValue::Long(_) => print_bytes(raw),
+        _ => {}
+    }
+}
+
+// An operand's value; the name of a label has none.
+fn print_operand(text: &[u8], token: Token) {
+    let raw = tokens::raw_text(text, token);
+    match values::value(text, token) {
+        TokenValue::Is(v) => {
+            print_case(v);
+            print_held(raw, v);
+        }
+        TokenValue::Refused(_) => {
+            print_text(b"name ");
+            print_bytes(raw);
+        }
+    }
+}
+
+fn print_operands(text: &[u8], words: &[u64], operands: &[u64], n: usize) {
+    let mut i = 0;
+    while i < n {
+        print_text(b"; ");
+        let operand = entries::operand_in(operands, i);
+        print_operand(text, entries::token_in(words, operand.token));
+        i += 1;
+    }
+}
+
+// As `pcode-list` prints it: level, name, position.
+fn print_label(text: &[u8], words: &[u64], labels: &[u64], i: usize) {
+    let label = entries::label_in(labels, i);
+    print_text(b"; label ");
+    print_number(label.level as u64);
+    print_text(b" ");
+    print_bytes(tokens::raw_text(text, entries::token_in(words, label.token)));
+    print_text(b" ");
+    print_number(label.position as u64);
+}
+
+fn print_labels(text: &[u8], words: &[u64], labels: &[u64], n: usize) {
+    let mut i = 0;
+    while i < n {
+        print_label(text, words, labels, i);
+        i += 1;
+    }
+}
+
+fn print_counts(c: Counts) {
+    print_text(b"levels ");
+    print_number(c.levels as u64);
+    print_text(b" actions ");
+    print_number(c.actions as u64);
+    print_text(b" operands ");
+    print_number(c.operands as u64);
+    print_text(b" labels ");
+    print_number(c.labels as u64);
+}
+
+// Reads with the tables that are lent, and ends the line.
+fn answer(
+    text: &[u8],
+    words: &mut [u64],
+    actions: &mut [u64],
+    operands: &mut [u64],
+    levels: &mut [u64],
+    labels: &mut [u64],
+) {
+    match as2_pcode::read(text, words, actions, operands, levels, labels) {
+        Reading::Read(c) => {
+            print_counts(c);
+            print_operands(text, words, operands, c.operands);
+            print_labels(text, words, labels, c.labels);
+        }
+        Reading::Refused(r) => print_refusal(r),
+    }
+    print_text(b"\n");
+}
+
+fn read_small(text: &[u8]) {
+    let mut words = [0u64; 1024];
+    let mut actions = [0u64; 1024];
+    let mut operands = [0u64; 1024];
+    let mut levels = [0u64; 1024];
+    let mut labels = [0u64; 1024];
+    answer(
+        text,
+        &mut words,
+        &mut actions,
+        &mut operands,
+        &mut levels,
+        &mut labels,
+    );
+}
+
+// A token for each byte, and an action for each four.
+fn read_large(text: &[u8]) {
+    let mut words = [0u64; 65536];
+    let mut actions = [0u64; 16384];
+    let mut operands = [0u64; 1024];
+    let mut levels = [0u64; 1024];
+    let mut labels = [0u64; 1024];
+    answer(
+        text,
+        &mut words,
+        &mut actions,
+        &mut operands,
+        &mut levels,
+        &mut labels,
+    );
+}
+
+fn show(text: &[u8]) {
+    print_head(text);
+    read_small(text);
+}
+
+// ---- nestings and sizes
+
+// The byte at a place of a piece that is written again and again.
+fn repeated(piece: &[u8], at: usize) -> u8 {
+    let n = piece.len();
+    if n == 0 {
+        return 0;
+    }
+    let k = at % n;
+    if n <= k {
+        return 0;
+    }
+    piece[k]
+}
+
+// A piece again and again, from a place up to another.
+fn fill(text: &mut [u8], from: usize, to: usize, piece: &[u8]) {
+    if text.len() < to {
+        return;
+    }
+    let mut i = from;
+    while i < to {
+        text[i] = repeated(piece, i - from);
+        i += 1;
+    }
+}
+
+fn least(n: usize, limit: usize) -> usize
+    ensures { λ r. ⌜ r ≤ limit ⌝ }
+{
+    if limit < n {
+        return limit;
+    }
+    n
+}
+
+fn front(text: &[u8], n: usize) -> &[u8] {
+    let end = least(n, text.len());
+    &text[..end]
+}
+
+// That many With inside one another, with a line feed only after each closing brace, between two short texts.
+fn show_nested(before: &[u8], blocks: usize, behind: &[u8]) {
+    let start = least(before.len(), 100);
+    let more = least(behind.len(), 100);
+    let opened = start + least(blocks, 100) * 6;
+    let closed = opened + least(blocks, 100) * 2;
+    let mut text = [0u8; 1000];
+    fill(&mut text, 0, start, before);
+    fill(&mut text, start, opened, b"With {");
+    fill(&mut text, opened, closed, b"}\n");
+    fill(&mut text, closed, closed + more, behind);
+    print_bytes(before);
+    print_number(blocks as u64);
+    print_text(b" nested With");
+    print_bytes(behind);
+    print_text(b": ");
+    read_small(front(&text, closed + more));
+}
+
+// A piece again and again in a text of the largest size, and of a byte more.
+fn show_size(piece: &[u8]) {
+    let mut text = [0u8; 65537];
+    fill(&mut text, 0, 65537, piece);
+    print_text(b"65536 bytes of ");
+    print_head(piece);
+    read_large(front(&text, 65536));
+    print_text(b"65537 bytes of ");
+    print_head(piece);
+    read_large(&text);
+}
+
+// ---- tables
+
+const MARK: u64 = 16045690984503098046;
+
+// How many places each table is lent with.
+struct Places {
+    tokens: usize,
+    actions: usize,
+    operands: usize,
+    levels: usize,
+    labels: usize,
+}
+
+fn print_places(p: Places) {
+    print_text(b"tables of ");
+    print_number(p.tokens as u64);
+    print_text(b" ");
+    print_number(p.actions as u64);
+    print_text(b" ");
+    print_number(p.operands as u64);
+    print_text(b" ");
+    print_number(p.levels as u64);
+    print_text(b" ");
+    print_number(p.labels as u64);
+    print_text(b" places, ");
+}
+
+// Whether a table holds the mark from a place on.
+fn is_marked(table: &[u64], from: usize) -> bool {
+    let mut i = from;
+    while i < table.len() {
+        if table[i] != MARK {
+            return false;
+        }
+        i += 1;
+    }
+    true
+}
+
+// Whether every table holds the mark behind its entries.
+fn are_marked(
+    c: Counts,
+    words: &[u64],
+    actions: &[u64],
+    operands: &[u64],
+    levels: &[u64],
+    labels: &[u64],
+) -> bool {
+    if !is_marked(words, c.tokens) {
+        return false;
+    }
+    if !is_marked(actions, c.actions) {
+        return false;
+    }
+    if !is_marked(operands, c.operands) {
+        return false;
+    }
+    if !is_marked(levels, c.levels) {
+        return false;
+    }
+    is_marked(labels, c.labels)
+}
+
+const NO_ENTRIES: Counts = Counts {
+    tokens: 0,
+    actions: 0,
+    operands: 0,
+    levels: 0,
+    labels: 0,
+};
+
+// Prints the answer, and how many entries of each table it may have changed.
+fn entries_of(reading: Reading) -> Counts {
+    match reading {
+        Reading::Read(c) => {
+            print_counts(c);
+            c
+        }
+        Reading::Refused(r) => {
+            print_refusal(r);
+            NO_ENTRIES
+        }
+    }
+}
+
+fn print_kept(kept: bool) {
+    if kept {
+        print_text(b"; no other place changed\n");
+        return;
+    }
+    print_text(b"; MORE CHANGED\n");
+}
+
+// Reads with the front of each table, prints the answer, and says how many entries it has.
+fn read_fronts(
+    text: &[u8],
+    p: Places,
+    words: &mut [u64],
+    actions: &mut [u64],
+    operands: &mut [u64],
+    levels: &mut [u64],
+    labels: &mut [u64],
+) -> Counts {
+    let a = least(p.tokens, words.len());
+    let b = least(p.actions, actions.len());
+    let c = least(p.operands, operands.len());
+    let d = least(p.levels, levels.len());
+    let e = least(p.labels, labels.len());
+    entries_of(as2_pcode::read(
+        text,
+        &mut words[..a],
+        &mut actions[..b],
+        &mut operands[..c],
+        &mut levels[..d],
+        &mut labels[..e],
+    ))
+}
+
+// Lends tables of these lengths, parts of longer ones that are marked all over.
+fn show_tables(text: &[u8], p: Places) {
+    print_places(p);
+    print_head(text);
+    let mut words = [MARK; 33];
+    let mut actions = [MARK; 33];
+    let mut operands = [MARK; 33];
+    let mut levels = [MARK; 33];
+    let mut labels = [MARK; 33];
+    let n = read_fronts(
+        text,
+        p,
+        &mut words,
+        &mut actions,
+        &mut operands,
+        &mut levels,
+        &mut labels,
+    );
+    print_kept(are_marked(n, &words, &actions, &operands, &levels, &labels));
+}
+
+fn show_places(
+    text: &[u8],
+    tokens: usize,
+    actions: usize,
+    operands: usize,
+    levels: usize,
+    labels: usize,
+) {
+    show_tables(
+        text,
+        Places {
+            tokens,
+            actions,
+            operands,
+            levels,
+            labels,
+        },
+    );
+}
+
+// ---- the texts
+
+fn bench_texts() {
+    show(b"");
+    show(b"Push 1e5");
+    show(b"Push 1e5\n");
+    show(b"Push 2147483647, 2147483648");
+    show(b"Push -0, -0.0");
+    show(b"Push constant65536");
+    show(b"Push constant65535");
+    show(b"Push register256");
+    show(b"Push register255");
+    show(b"\"");
+    show(b"GotoLabel \"ab");
+    show(b"GotoLabel \"\xc3\xa9");
+    show(b"DefineFunction \"f\", -3 {}");
+    show(b"With { Add }");
+    show(b"With { a: }");
+    show(b"a: Add\na: Pop");
+    show(b"StoreRegister 255");
+    show(b"StoreRegister 256");
+    show(b"StoreRegister -0");
+    show_nested(b"", 64, b"");
+    show_nested(b"", 65, b"");
+    show_size(b"Add\n");
+    show_size(b"\n");
+    show_size(b"\t");
+}
+
+// The traps at the door: a byte order mark, exponent digits at the end, a repeated label, `constant65536`.
+fn traps() {
+    show(b"\xef\xbb\xbf");
+    show(b"\xef\xbb\xbfAdd\n");
+    show(b"Push 1e55");
+    show(b"Push 1e5 ");
+    show(b"a: b: Add\na: Pop");
+    show(b"constant65536: Jump constant65536");
+    show(b"register256: Jump register256");
+}
+
+// The order of the rows: 2 before 3, 3 before 6, and the earlier of 3 and 4, and of 6 and 7.
+fn rows() {
+    show(b"Add\xff\"");
+    show(b"\"\n\"\xc3\xa9");
+    show(b"\"\xc3\xa9\n\"");
+    show(b"} \"");
+    show_nested(b"} ", 65, b"");
+    show_nested(b"", 65, b" }");
+}
+
+// Rows 5 and 8: the example of `pcode-list` has 19 tokens, 4 actions, 3 operands, 2 levels and 2 labels.
+fn example(tokens: usize, actions: usize, operands: usize, levels: usize, labels: usize) {
+    let text = b"start: Push \"ok\", 3\nWith {\nTrace\ndone: }\nJump start\n";
+    show_places(text, tokens, actions, operands, levels, labels);
+}
+
+fn tables() {
+    example(19, 4, 3, 2, 2);
+    example(32, 32, 32, 32, 32);
+    example(18, 4, 3, 2, 2);
+    example(19, 3, 3, 2, 2);
+    example(19, 4, 2, 2, 2);
+    example(19, 4, 3, 1, 2);
+    example(19, 4, 3, 2, 1);
+    example(18, 3, 2, 1, 1);
+    example(19, 3, 2, 1, 1);
+    example(19, 4, 2, 1, 1);
+    example(19, 4, 3, 1, 1);
+    example(0, 0, 0, 0, 0);
+    show_places(b"", 0, 0, 0, 1, 0);
+    show_places(b"", 0, 0, 0, 0, 0);
+    show_places(b"With { Add }", 4, 0, 0, 0, 0);
+    show_places(b"With { Add }", 3, 0, 0, 0, 0);
+    show_places(b"\"", 0, 0, 0, 0, 0);
+}
+
+fn main() {
+    bench_texts();
+    traps();
+    rows();
+    tables();
+}
