@@ -1,3 +1,6 @@
 pub mod Rows
 pub mod Hand
 pub mod Scratch
+pub mod Kept
+pub mod Handed
+pub mod Theorems
