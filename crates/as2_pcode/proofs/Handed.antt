@@ -41,7 +41,8 @@ use Rattle.reading.proofs.Places.{text-all}
 use Rattle.reading.proofs.Tokens.{tokens-back}
 use Rattle.as2_pcode.specs.declared.Counts.{Counts}
 use Rattle.as2_pcode.specs.Reading.{Tables, Accepts}
-use Rattle.as2_pcode.proofs.Kept.{mapped-handed, handed, every-map, every-weaker, numbered-length, numbered-low, LowOperand, operands-low, LowLabel, labels-low, LowAction, LevelLow, entry-count, actions-low, Under, net-under, Numbered, opened-under, NetLow, nets-low, LowLevel, CountLow, levels-low, level-count}
+use Rattle.reading.proofs.Entries.{entry-count, level-count}
+use Rattle.as2_pcode.proofs.Kept.{mapped-handed, handed, every-map, every-weaker, numbered-length, numbered-low, LowOperand, operands-low, LowLabel, labels-low, LowAction, LevelLow, actions-low, Under, net-under, Numbered, opened-under, NetLow, nets-low, LowLevel, CountLow, levels-low}
 
 -- ---- the tokens of a text that is lexed
 

@@ -139,10 +139,6 @@ abbrev pub LevelLow : R.Action → Type 0
 LevelLow v = v .level < 131072
 
 module _ (os : List R.Operand) where
-  pub entry-count : (xs : List R.Action) (a first : ℕ) → length (actionEntries a first xs os) ≡ length xs
-  entry-count [] a first = refl
-  entry-count (v ∷ xs) a first = ap suc (entry-count xs (suc a) (first + under a os))
-
   entries-low : (xs : List R.Action) (a first : ℕ) → Every LevelLow xs → first + from a os < 131072 → Every LowAction (actionEntries a first xs os)
   entries-low [] a first h g = tt
   entries-low (v ∷ xs) a first h g =
@@ -216,8 +212,3 @@ pub levels-low : (ls : List R.Level) (ns : List Net) → Every CountLow ls → E
 levels-low [] ns h g = tt
 levels-low (l ∷ ls) [] h g = tt
 levels-low (l ∷ ls) (n ∷ ns) h g = ((h .0, g .0), levels-low ls ns (h .1) (g .1))
-
-pub level-count : (ls : List R.Level) (ns : List Net) → length ns ≡ length ls → length (levelEntries ls ns) ≡ length ls
-level-count [] ns h = refl
-level-count (l ∷ ls) [] h = absurd (omega (arith, h))
-level-count (l ∷ ls) (n ∷ ns) h = ap suc (level-count ls ns (omega (arith, h)))

@@ -85,7 +85,7 @@ abbrev bare : Acted → R.Action
 bare l = record { name = l .name; level = l .level }
 
 module _ (os : List R.Operand) where
-  entry-count : (xs : List R.Action) (a first : ℕ) → length (actionEntries a first xs os) ≡ length xs
+  pub entry-count : (xs : List R.Action) (a first : ℕ) → length (actionEntries a first xs os) ≡ length xs
   entry-count [] a first = refl
   entry-count (x ∷ xs) a first = ap suc (entry-count xs (suc a) (first + under a os))
 
@@ -156,7 +156,7 @@ numbered-at (l ∷ ls) (suc k) h = numbered-at ls k (omega arith)
 abbrev counted : Opened → R.Level
 counted l = record { owner = l .owner; actions = ownActions (l .items) }
 
-level-count : (ls : List R.Level) (ns : List Net) → length ns ≡ length ls → length (levelEntries ls ns) ≡ length ls
+pub level-count : (ls : List R.Level) (ns : List Net) → length ns ≡ length ls → length (levelEntries ls ns) ≡ length ls
 level-count [] ns h = refl
 level-count (l ∷ ls) [] h = absurd (omega arith)
 level-count (l ∷ ls) (n ∷ ns) h = ap suc (level-count ls ns (omega arith))
