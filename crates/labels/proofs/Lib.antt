@@ -1,3 +1,7 @@
 pub mod Bytes
+pub mod Hashing
+pub mod Linking
 pub mod Placing
+pub mod Same
+pub mod Searching
 pub mod Turns

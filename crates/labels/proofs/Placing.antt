@@ -3,11 +3,9 @@ use mathlib.Core.Path.{_≡_, refl, ap, sym, _∙_}
 use mathlib.Core.Bool.{Bool, true, false, cond}
 use mathlib.Core.List.{List, [], _∷_, _++_}
 use Prim.Native.Nat.{ℕ, suc, _+_, _/_, _%_, _≤_, _<_}
-use native.Mathlib.Numerals.{add-one}
 use native.Mathlib.Omega.{arith}
 use borrow.Author.Tests.{ne-eqb, eq-eqb}
-use lib.ListN.{length, take, drop, getD, set, drop-of-length-le}
-use lib.Seq.{drop-cons, length-take-le, getD-take}
+use lib.ListN.{length, getD, set}
 use Rattle.tokens.specs.declared.Token.{Token}
 use Rattle.tokens.specs.Tokens.{tokenOf, rawText}
 use Rattle.grammar.specs.Reading.{sameName}
@@ -89,23 +87,3 @@ module _ (text s : List ℕ) where
 
   pub merged-length : (l : List ℕ) → length (merged text s [] l) ≤ length l
   merged-length l = omega (arith, merged-more [] l)
-
--- ---- a search among the first m that has come to the label k
-
-module _ (text s : List ℕ) (out : List ℕ) (m w k : ℕ) (so : firstSame text s w (take m out) ≡ k + firstSame text s w (drop k (take m out))) (h : m ≤ length out) where
-  pub not-found : k ≤ m → m ≤ k → m ≡ firstSame text s w (take m out)
-  not-found f g =
-      let n = length-take-le m out h in
-      omega (arith, so, ap (firstSame text s w) (drop-of-length-le (take m out) {i = k} (omega arith)))
-
-  module _ (g : k < m) where
-    here : drop k (take m out) ≡ getD out k 0 ∷ drop (suc k) (take m out)
-    here =
-        let n = length-take-le m out h in
-        drop-cons (take m out) k 0 (omega arith) ∙ ap (λ (v : ℕ). v ∷ drop (suc k) (take m out)) (getD-take m out k 0 g)
-
-    pub found : true ≡ isSame text s w (getD out k 0) → k ≡ firstSame text s w (take m out)
-    found e = sym (so ∙ simp (here, ← e) (omega arith))
-
-    pub on : false ≡ isSame text s w (getD out k 0) → firstSame text s w (take m out) ≡ (k + 1) + firstSame text s w (drop (k + 1) (take m out))
-    on e = so ∙ simp (here, ← e, add-one k) (omega arith)

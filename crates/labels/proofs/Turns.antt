@@ -1,12 +1,14 @@
 -- What `put_label` does to `out`, and a turn of `merge_labels`. Assumes nothing.
 use mathlib.Core.Path.{_≡_, refl, ap, sym, subst, _∙_}
-use mathlib.Core.List.{List, [], _∷_, _++_}
+use mathlib.Core.List.{List, [], _∷_, _++_, map}
 use Prim.Native.Nat.{ℕ, suc, _+_, _-_, _≤_, _<_}
 use native.Mathlib.Numerals.{add-one}
 use native.Mathlib.Omega.{arith}
 use lib.ListN.{length, take, drop, getD, set, length-append, length-set, take-append-drop}
 use lib.Seq.{take-suc, take-at, length-take-le, getD-take, set-split, set-append-left, append-snoc, drop-append-add, drop-drop}
 use Rattle.labels.specs.Labels.{moved, firstSame, placed, merged, Placed, Merged}
+use Rattle.labels.specs.Index.{bucketOf, Chains, Distinct, Indexed}
+use Rattle.labels.proofs.Same.{merged-distinct}
 use Rattle.labels.proofs.Placing.{placed-found, placed-new, placed-length, merged-append, merged-length}
 
 module _ (text s : List ℕ) where
@@ -56,18 +58,20 @@ module _ (text s : List ℕ) where
       ∙ drop-drop (n - length a) (length a) y
       ∙ ap (λ (j : ℕ). drop j y) (sym e)
 
-  pub begins : (out : List ℕ) → Merged text s [] out out 0
-  begins out = record { count = refl; labels = refl }
-
   module _ (words old out : List ℕ) (m i : ℕ) (a : Merged text s (take i words) old out m) (h : i < length words) where
-    pub few : m ≤ i
+    few : m ≤ i
     few = omega (arith, a .count, merged-length text s (take i words), length-take-le i words (omega arith))
 
-    pub again : (new : List ℕ) (r : ℕ) → Placed text s (getD words i 0) m out new r → Merged text s (take (i + 1) words) old new r
+    front : take m out ≡ merged text s [] (take i words)
+    front = let L = merged text s [] (take i words) in ap (take m) (a .labels) ∙ take-at L (drop (length L) old) m (sym (a .count))
+
+    distinct : Distinct text s (take m out)
+    distinct = subst (Distinct text s) (sym front) (merged-distinct text s (take i words))
+
+    again : (new : List ℕ) (r : ℕ) → Placed text s (getD words i 0) m out new r → Merged text s (take (i + 1) words) old new r
     again new r p =
         let w = getD words i 0 in
         let L = merged text s [] (take i words) in
-        let front : take m out ≡ L = ap (take m) (a .labels) ∙ take-at L (drop (length L) old) m (sym (a .count)) in
         let more : placed text s w (take m out) ≡ merged text s [] (take (i + 1) words) =
         ap (placed text s w) front
         ∙ sym (merged-append text s [] (take i words) (w ∷ []))
@@ -79,4 +83,44 @@ module _ (text s : List ℕ) where
         record {
           count = p .count ∙ ap length more;
           labels = p .labels ∙ ap (λ (l : List ℕ). P ++ l) rest ∙ ap (λ (l : List ℕ). l ++ drop (length l) old) more;
+        }
+
+-- ---- turns of `merge_labels`: after i of n words, with n places for chains
+
+pub record Going (text s words : List ℕ) (n seed : ℕ) (old out chains : List ℕ) (m i : ℕ) : Type 0 where
+  pub inside : i ≤ n
+  pub out-long : length out ≡ length old
+  pub chains-long : length chains ≡ n
+  pub labels : Merged text s (take i words) old out m
+  pub linked : Chains (map (bucketOf text s seed n) (take m out)) chains
+
+module _ (text s words : List ℕ) (n seed : ℕ) (old chains : List ℕ) where
+  pub begins : length chains ≡ n → Chains [] chains → Going text s words n seed old old chains 0 0
+  begins h c = record { inside = omega arith; out-long = refl; chains-long = h; labels = record { count = refl; labels = refl }; linked = c }
+
+  module _ (out : List ℕ) (m i : ℕ) (g : Going text s words n seed old out chains m i) (hw : n ≤ length words) (ho : n ≤ length old) (few-words : n < 4294967296) (t : i < n) where
+    at-most : m ≤ i
+    at-most = few text s words old out m i (g .labels) (omega arith)
+
+    pub asks : (m < length out) × Indexed text s seed m out chains
+    asks = (
+      omega (arith, at-most, g .out-long),
+      record {
+        inside = omega (arith, at-most, g .out-long);
+        room = omega (arith, at-most, g .chains-long);
+        few = omega (arith, g .chains-long);
+        distinct = distinct text s words old out m i (g .labels) (omega arith);
+        chains = subst (λ (k : ℕ). Chains (map (bucketOf text s seed k) (take m out)) chains) (sym (g .chains-long)) (g .linked);
+      },
+    )
+
+    pub goes-on : (new chains′ : List ℕ) (r : ℕ) → length new ≡ length out → length chains′ ≡ length chains → Placed text s (getD words i 0) m out new r
+        → Chains (map (bucketOf text s seed (length chains)) (take r new)) chains′ → Going text s words n seed old new chains′ r (i + 1)
+    goes-on new chains′ r e f p c =
+        record {
+          inside = omega arith;
+          out-long = e ∙ g .out-long;
+          chains-long = f ∙ g .chains-long;
+          labels = again text s words old out m i (g .labels) (omega arith) new r p;
+          linked = subst (λ (k : ℕ). Chains (map (bucketOf text s seed k) (take r new)) chains′) (g .chains-long) c;
         }

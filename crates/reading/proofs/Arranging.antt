@@ -120,6 +120,8 @@ module _ (text s : List ℕ) (x : Items) (k : Known text s x) where
           inside = omega (arith, m .labels, r .labels);
           sorted-room = omega (arith, m .labels, h);
           starts-room = omega (arith, m .levels, g);
+          index-room = omega (arith, m .labels, g);
+          few = omega (arith, m .labels, r .few);
           keys =
               subst (λ (n : ℕ). Below n (take (t .labels) ls)) (sym levels-count)
               (subst (Below (length (opened x))) (sym labels-are) (labels-below x low-tokens (omega (arith, few-actions))));

@@ -73,6 +73,8 @@ pub record LabelsAsked (n levels : ℕ) (labels sorted starts : List ℕ) : Type
   pub inside : n ≤ length labels
   pub sorted-room : n ≤ length sorted
   pub starts-room : levels < length starts
+  pub index-room : n ≤ length starts
+  pub few : n ≤ 65536
   pub keys : Below levels (take n labels)
 
 -- what arranging asks: the log of a tree, and places

@@ -57,7 +57,7 @@ fn arrange_labels(
 {
     let named = &labels[..n];
     grouping::group(named, levels, sorted, starts);
-    labels::merge_labels(text, s, sorted, n, labels)
+    labels::merge_labels(text, s, sorted, n, labels, starts)
 }
 
 // The words of a tree's tables, from its log.

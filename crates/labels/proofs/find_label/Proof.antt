@@ -1,42 +1,71 @@
--- `labels::find_label` meets its contract. The invariant: the search from `k` on decides. Assumes nothing.
+-- `labels::find_label` meets its contract. The invariant: the labels behind are passed. Assumes nothing.
 use borrow.Author.Needs.{needs}
 use mathlib.Core.Path.{_≡_, sym, _∙_}
-use Prim.Native.Nat.{_+_, _≤_, _-_}
+use Prim.Native.Nat.{_-_, _<_}
 use native.Mathlib.Omega.{arith}
-use lib.ListN.{take, drop}
-use Rattle.labels.specs.Labels.{firstSame}
-use Rattle.labels.proofs.Placing as laws
+use lib.ListN.{length}
+use Rattle.labels.specs.Index.{bucketOf}
+use Rattle.labels.proofs.Searching.{Past, bucket-listed, walk-begins, walk-on, walk-found, walk-ends, next-less}
 use Rattle.labels.proofs.find_label.Statement.{statement}
 use Rattle.labels.proofs.find_label.Tie as tie
 
 abbrev Inv-loop : tie.InvT-loop
-Inv-loop text s out m w k₀ k = (k ≤ m) × (firstSame text s w (take m out) ≡ k + firstSame text s w (drop k (take m out)))
+Inv-loop text s seed out m index w b next₀ next = (b ≡ bucketOf text s seed (length index) w) × Past text s seed (length index) m out w next
 
 abbrev μ-loop : tie.MeasureT-loop
-μ-loop text s out m w k₀ k = m - k
+μ-loop text s seed out m index w b next₀ next = next
 
-found : tie.Need-returns Inv-loop μ-loop
-found c =
-    let p = c .before .before .before .before .before .before .before .before in
+listed : (c : tie.After-bucket Inv-loop μ-loop) → c .bucket .result < length (c .before .before .before .before .before .args .index .now)
+listed c =
+    let p = c .before .before .before .before .before in
+    let a = p .args in
+    bucket-listed (a .text .now) (a .s .now) (a .seed) (a .m) (a .out .now) (a .index .now) (p .pre) (a .w) (c .bucket .result) (c .bucket .ensures)
+
+begins : tie.Need-loop-holds Inv-loop μ-loop
+begins c =
+    let p = c .before .before .before .before .before .before in
+    let a = p .args in
+    let b = c .before .bucket in
+    (b .ensures, walk-begins (a .text .now) (a .s .now) (a .seed) (a .m) (a .out .now) (a .index .now) (p .pre) (a .w) (b .result) (b .ensures))
+
+finds : tie.Need-returns Inv-loop μ-loop
+finds c =
+    let p = c .before .before .before .before .before .before .before .before .before .before .before in
+    let a = p .args in
     let l = c .before .before .before .before .loop in
-    laws.found (p .args .text .now) (p .args .s .now) (p .args .out .now) (p .args .m) (p .args .w) (l .k) (l .inv .1) (p .pre)
-    (c .before .before .before .loop-test .taken) (sym (c .if1 .taken) ∙ c .before .same-label .ensures)
+    record {
+      place =
+          walk-found (a .text .now) (a .s .now) (a .seed) (a .m) (a .out .now) (a .index .now) (p .pre) (a .w) (l .next) (l .inv .1) (l .next - 1) (omega arith)
+          (sym (c .if1 .taken) ∙ c .before .same-label .ensures);
+      bucket = l .inv .0;
+    }
 
-goes-on : tie.Need-loop-again Inv-loop μ-loop
-goes-on c =
-    let p = c .before .before .before .before .before .before .before .before in
-    let l = c .before .before .before .before .loop in (
-      omega arith,
-      laws.on (p .args .text .now) (p .args .s .now) (p .args .out .now) (p .args .m) (p .args .w) (l .k) (l .inv .1) (p .pre)
-          (c .before .before .before .loop-test .taken) (sym (c .if1 .left) ∙ c .before .same-label .ensures),
+less : tie.Need-loop-less Inv-loop μ-loop
+less c =
+    let p = c .before .before .before .before .before .before .before .before .before .before .before .before in
+    let a = p .args in
+    let l = c .before .before .before .before .before .loop in
+    next-less (a .text .now) (a .s .now) (a .seed) (a .m) (a .out .now) (a .index .now) (p .pre) (a .w) (l .next) (l .inv .1) (l .next - 1) (omega arith)
+
+again : tie.Need-loop-again Inv-loop μ-loop
+again c =
+    let p = c .before .before .before .before .before .before .before .before .before .before .before .before in
+    let a = p .args in
+    let l = c .before .before .before .before .before .loop in (
+      l .inv .0,
+      walk-on (a .text .now) (a .s .now) (a .seed) (a .m) (a .out .now) (a .index .now) (p .pre) (a .w) (l .next) (l .inv .1) (l .next - 1) (omega arith)
+          (sym (c .before .if1 .left) ∙ c .before .before .same-label .ensures),
     )
 
-not-found : tie.Need-returns-2 Inv-loop μ-loop
-not-found c =
-    let p = c .before .before .before .before .before in
+ends : tie.Need-returns-2 Inv-loop μ-loop
+ends c =
+    let p = c .before .before .before .before .before .before .before .before in
+    let a = p .args in
     let l = c .before .loop in
-    laws.not-found (p .args .text .now) (p .args .s .now) (p .args .out .now) (p .args .m) (p .args .w) (l .k) (l .inv .1) (p .pre)
-    (l .inv .0) (c .loop-test .left)
+    record {
+      place = walk-ends (a .text .now) (a .s .now) (a .seed) (a .m) (a .out .now) (a .index .now) (p .pre) (a .w) (l .next) (l .inv .1) (c .loop-test .left);
+      bucket = l .inv .0;
+    }
 
 pub find-label-spec : {M : Type 1} → statement M
 find-label-spec =
@@ -44,12 +73,17 @@ find-label-spec =
     (tie.spec
     Inv-loop
     μ-loop
-    (λ c. (omega arith, omega arith))
+    (λ c κs. omega (arith, c .before .before .before .before .pre .room))
+    (λ c. omega (arith, listed c, c .before .before .before .before .before .pre .few))
+    (λ c. listed (c .before))
+    begins
     (λ c. search needs)
     (λ c. search needs)
+    (λ c. omega (arith, c .before .before .loop .inv .1 .inside, c .before .before .before .before .before .before .before .before .before .pre .inside))
     (λ c κs. search needs)
-    found
+    finds
     (λ c. search needs)
-    (λ c. search needs)
-    goes-on
-    not-found)
+    (λ c. omega (arith, c .before .before .before .before .before .loop .inv .1 .inside, c .before .before .before .before .before .before .before .before .before .before .before .before .pre .room))
+    less
+    again
+    ends)

@@ -1,50 +1,62 @@
--- `labels::merge_labels` meets its contract: after i turns `out` holds the labels of the first i words. Assumes nothing.
+-- `labels::merge_labels` meets its contract: after i turns `out` holds the labels of the first i words, and the index their chains.
+-- Assumes nothing.
 use borrow.Author.Needs.{needs}
-use mathlib.Core.Path.{_≡_, refl, subst, _∙_}
-use Prim.Native.Nat.{ℕ, _≤_, _-_}
+use mathlib.Core.Path.{_≡_, sym, subst, _∙_}
+use Prim.Native.Nat.{ℕ, _-_}
 use native.Mathlib.Omega.{arith}
-use lib.ListN.{length, take}
+use lib.ListN.{take}
+use lib.Seq.{length-take-le, length-front}
 use Rattle.labels.specs.Labels.{Merged}
-use Rattle.labels.proofs.Turns.{begins, few, again}
+use Rattle.labels.proofs.Turns.{Going, begins, asks, goes-on}
 use Rattle.labels.proofs.merge_labels.Statement.{statement}
 use Rattle.labels.proofs.merge_labels.Tie as tie
 
 abbrev Inv-loop : tie.InvT-loop
-Inv-loop text s words n out₀ m₀ i₀ out m i = (i ≤ n) × ((length out ≡ length out₀) × Merged text s (take i words) out₀ out m)
+Inv-loop text s words n out₀ chains₀ seed m₀ i₀ out chains m i = Going text s words n seed out₀ out chains m i
 
 abbrev μ-loop : tie.MeasureT-loop
-μ-loop text s words n out₀ m₀ i₀ out m i = n - i
+μ-loop text s words n out₀ chains₀ seed m₀ i₀ out chains m i = n - i
+
+front : tie.Need-slice-aggregate-chains Inv-loop μ-loop
+front c = let p = c .before .before .before .before .before .before in sym (length-take-le (p .args .n) (p .args .index .now) (p .pre .1 .0))
+
+whole : tie.Need-same-length-2 Inv-loop μ-loop
+whole c =
+    let p = c .before .before .before .before .before .before .before .before .before .before .before .before .before .before in
+    let l = c .before .before .before .loop in
+    length-front (p .args .index .now) (l .chains) (p .args .n) (l .inv .chains-long ∙ sym (length-take-le (p .args .n) (p .args .index .now) (p .pre .1 .0)))
 
 holds : tie.Need-loop-holds Inv-loop μ-loop
-holds c = let a = c .before .before .before .before .args in (omega arith, (refl, begins (a .text .now) (a .s .now) (a .out .now)))
+holds c =
+    let p = c .before .before .before .before .before .before .before .before .before .before in
+    let a = p .args in
+    let q = c .before .before .clear in
+    begins (a .text .now) (a .s .now) (a .words .now) (a .n) 1540483477 (a .out .now) (q .last .0)
+    (q .kept .0 ∙ length-take-le (a .n) (a .index .now) (p .pre .1 .0)) (q .ensures)
 
 room : tie.Need-put-label-requires Inv-loop μ-loop
 room c κs =
-    let p = c .before .before .before .before .before .before .before .before in
-    let l = c .before .before .before .loop in
-    let t = c .before .before .loop-test .taken in
-    omega (arith, p .pre, l .inv .1 .0, few (p .args .text .now) (p .args .s .now) (p .args .words .now) (p .args .out .now) (l .out) (l .m) (l .i) (l .inv .1 .1) (omega (arith, p .pre, t)), t)
+    let p = c .before .before .before .before .before .before .before .before .before .before .before .before .before .before .before in
+    let a = p .args in
+    let l = c .before .before .before .before .loop in
+    asks (a .text .now) (a .s .now) (a .words .now) (a .n) 1540483477 (a .out .now) (l .chains) (l .out) (l .m) (l .i) (l .inv) (p .pre .0 .0) (p .pre .0 .1) (p .pre .1 .1) (c .before .before .before .loop-test .taken)
 
-goes-on : tie.Need-loop-again Inv-loop μ-loop
-goes-on c =
-    let p = c .before .before .before .before .before .before .before .before .before .before .before in
-    let l = c .before .before .before .before .before .before .loop in
-    let t = c .before .before .before .before .before .loop-test .taken in
-    let q = c .before .before .put-label in (
-      omega (arith, t),
-      (
-        q .kept .1 .1 .1 .1 .0 ∙ l .inv .1 .0,
-        again (p .args .text .now) (p .args .s .now) (p .args .words .now) (p .args .out .now) (l .out) (l .m) (l .i) (l .inv .1 .1) (omega (arith, p .pre, t))
-            (q .last .1 .1 .1 .1 .0) (q .result) (q .ensures),
-      ),
-    )
+on : tie.Need-loop-again Inv-loop μ-loop
+on c =
+    let p = c .before .before .before .before .before .before .before .before .before .before .before .before .before .before .before .before .before .before .before .before in
+    let a = p .args in
+    let l = c .before .before .before .before .before .before .before .before .before .loop in
+    let q = c .before .before .before .before .put-label in
+    goes-on (a .text .now) (a .s .now) (a .words .now) (a .n) 1540483477 (a .out .now) (l .chains) (l .out) (l .m) (l .i) (l .inv) (p .pre .0 .0) (p .pre .0 .1) (p .pre .1 .1) (c .before .before .before .before .before .before .before .before .loop-test .taken)
+    (q .last .1 .1 .1 .1 .1 .0) (q .last .1 .1 .1 .1 .1 .1 .0) (q .result) (q .kept .1 .1 .1 .1 .1 .0) (q .kept .1 .1 .1 .1 .1 .1 .0) (q .ensures .0) (q .ensures .1)
 
 returns : tie.Need-returns Inv-loop μ-loop
 returns c =
-    let p = c .before .before .before .before .before .before in
-    let l = c .before .loop in
-    let e : l .i ≡ p .args .n = omega (arith, l .inv .0, c .loop-test .left) in
-    subst (λ (j : ℕ). Merged (p .args .text .now) (p .args .s .now) (take j (p .args .words .now)) (p .args .out .now) (l .out) (l .m)) e (l .inv .1 .1)
+    let p = c .before .before .before .before .before .before .before .before .before .before .before .before .before .before in
+    let a = p .args in
+    let l = c .before .before .before .loop in
+    let e : l .i ≡ a .n = omega (arith, l .inv .inside, c .before .before .loop-test .left) in
+    subst (λ (j : ℕ). Merged (a .text .now) (a .s .now) (take j (a .words .now)) (a .out .now) (l .out) (l .m)) e (l .inv .labels)
 
 pub merge-labels-spec : {M : Type 1} → statement M
 merge-labels-spec =
@@ -52,12 +64,16 @@ merge-labels-spec =
     (tie.spec
     Inv-loop
     μ-loop
+    (λ c. search needs)
+    front
+    (λ c κs. search needs)
     holds
     (λ c. search needs)
     (λ c. search needs)
     room
     (λ c. search needs)
     (λ c. search needs)
-    goes-on
+    on
     (λ c. search needs)
+    whole
     returns)

@@ -20,10 +20,10 @@ grouping c κs =
 
 returns : tie.Need-returns
 returns c =
-    let s = c .before .before .before .before .before .before .before .before .before .before .before .before .before .before .before .before .before .before in
+    let s = c .before .before .before .before .before .before .before .before .before .before .before .before .before .before .before .before .before .before .before .before .before in
     let a = s .args in
-    let g = c .before .before .before .before .before .before .before .before .before .group in
-    let m = c .before .before .merge-labels in
+    let g = c .before .before .before .before .before .before .before .before .before .before .before .before .group in
+    let m = c .before .before .before .before .merge-labels in
     labels-arranged (a .text .now) (a .s .now) (a .n) (a .levels) (a .labels .now) (a .sorted .now) (s .pre .inside) (s .pre .keys) (g .ensures) (m .ensures)
 
 pub arrange-labels-spec : {M : Type 1} → statement M
