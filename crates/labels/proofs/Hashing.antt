@@ -27,9 +27,9 @@ module _ (seed from h i : ℕ) (name : List ℕ) (so : hashOn seed from name ≡
 
 module _ (text s : List ℕ) (seed n : ℕ) where
   pub hashed : (w : ℕ) {t : Token} {x : List ℕ} {h : ℕ} → t ≡ tokenOf (getD s (w % 1048576) 0) → x ≡ rawText text t
-      → h ≡ hashOn seed (w / 1099511627776) x → h % n ≡ bucketOf text s seed n w
+      → h ≡ hashOn seed (w / 1099511627776 + 1) x → h % n ≡ bucketOf text s seed n w
   unfolding bucketOf
-  hashed w et ex eh = ap (λ (k : ℕ). k % n) (eh ∙ ap (hashOn seed (w / 1099511627776)) (ex ∙ ap (rawText text) et))
+  hashed w et ex eh = ap (λ (k : ℕ). k % n) (eh ∙ ap (hashOn seed (w / 1099511627776 + 1)) (ex ∙ ap (rawText text) et))
 
   pub bucket-inside : (w : ℕ) → 0 < n → bucketOf text s seed n w < n
   unfolding bucketOf
@@ -39,4 +39,4 @@ module _ (text s : List ℕ) (seed n : ℕ) where
   unfolding bucketOf
   same-bucket w v e =
       let k = same-equal text s w v e in
-      λ i. hashOn seed (k .levels i) (k .names i) % n
+      λ i. hashOn seed (k .levels i + 1) (k .names i) % n

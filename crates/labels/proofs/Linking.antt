@@ -43,6 +43,9 @@ module _ (index : List ℕ) (i c : ℕ) (h : i < length index) where
   pub next-other : (k : ℕ) → (k ≡ i → ⊥) → nextOf (withNext index i c) k ≡ nextOf index k
   next-other k d = ap (λ (q : ℕ). q / 4294967296) (getD-set-other index i k _ 0 d)
 
+pub linked-long : (index : List ℕ) (b j : ℕ) → length (linked index b j) ≡ length index
+linked-long index b j = length-set (withNext index j (headOf index b)) b _ ∙ length-set index j _
+
 -- ---- chains
 
 pub cleared : (index : List ℕ) (k : ℕ) → ((i : ℕ) → i < k → i < length index → getD index i 0 ≡ 0)
@@ -91,9 +94,6 @@ module _ (bs : List ℕ) (b : ℕ) where
     inner-long : length inner ≡ length index
     inner-long = length-set index m _
 
-    new-long : length new ≡ length index
-    new-long = length-set inner b _ ∙ inner-long
-
     head-new : headOf new b ≡ suc m
     head-new = head-there inner b (m + 1) (omega (arith, inner-long)) (omega arith) ∙ (omega arith)
 
@@ -136,6 +136,6 @@ module _ (bs : List ℕ) (b : ℕ) where
     pub chains-more : Chains (bs ++ b ∷ []) (linked index b (length bs))
     chains-more =
         record {
-          heads = λ k h. head-at k (rw new-long at h) (ℕ-discrete k b);
+          heads = λ k h. head-at k (rw (linked-long index b m) at h) (ℕ-discrete k b);
           nexts = λ k h. next-at k (omega (arith, longer)) (ℕ-discrete k m);
         }

@@ -9,12 +9,12 @@ use native.Mathlib.Omega.{arith}
 use lib.Dec.{ltb}
 use borrow.Author.Tests.{ltb-true, ltb-false}
 use lib.ListN.{length, take, getD, set, length-map}
-use lib.Seq.{length-take-le, getD-take, take-suc-set, take-set-lt, map-set-same}
+use lib.Seq.{length-take-le, getD-take, take-suc, take-suc-set, take-set-lt, map-set-same}
 use Rattle.labels.specs.Labels.{isSame, moved, firstSame}
-use Rattle.labels.specs.Index.{bucketOf, headOf, nextOf, linked, Last, Chains, Indexed}
+use Rattle.labels.specs.Index.{bucketOf, headOf, nextOf, linked, Last, Chains, ChainsOf, Indexed}
 use Rattle.labels.proofs.Same.{not-both, moved-equal, equal-same, found-first, none-found}
 use Rattle.labels.proofs.Hashing.{bucket-inside, same-bucket}
-use Rattle.labels.proofs.Linking.{chains-more}
+use Rattle.labels.proofs.Linking.{linked-long, chains-more}
 
 getD-map : (f : ℕ → ℕ) (l : List ℕ) (i : ℕ) → i < length l → getD (map f l) i 0 ≡ f (getD l i 0)
 getD-map f [] i h = absurd (omega arith)
@@ -94,9 +94,9 @@ module _ (text s : List ℕ) (seed m : ℕ) (out index : List ℕ) (a : Indexed 
         ∙ none-found text s w (take m out)
         (λ i h t. p .none-behind i (omega arith) (omega (arith, front-long)) (sym (ap (isSame text s w) (getD-take m out i 0 (omega (arith, front-long)))) ∙ t))
 
-  -- ---- one label more
+  -- ---- a label written again
 
-  pub chains-kept : (k v : ℕ) → k < m → v ≡ moved w (getD out k 0) → Chains (map f (take m (set out k v))) index
+  pub chains-kept : (k v : ℕ) → k < m → v ≡ moved w (getD out k 0) → ChainsOf text s seed (take m (set out k v)) index
   chains-kept k v h e =
       let same : f v ≡ f (getD (take m out) k 0) =
       ap f e ∙ same-bucket text s seed n _ _ (equal-same text s _ _ (moved-equal text s w (getD out k 0))) ∙ ap f (sym (getD-take m out k 0 h))
@@ -104,12 +104,30 @@ module _ (text s : List ℕ) (seed m : ℕ) (out index : List ℕ) (a : Indexed 
       let kept : map f (take m (set out k v)) ≡ bs = ap (map f) (take-set-lt m out k v h) ∙ map-set-same f (take m out) k v 0 same in
       subst (λ (l : List ℕ). Chains l index) (sym kept) (a .chains)
 
-  pub chains-added : (b : ℕ) (new : List ℕ) → m < length out → b ≡ f w → new ≡ linked index b m → Chains (map f (take (m + 1) (set out m w))) new
-  chains-added b new h e z =
-      let more : map f (take (m + 1) (set out m w)) ≡ bs ++ f w ∷ [] =
-      ap (λ (k : ℕ). map f (take k (set out m w))) (add-one m) ∙ ap (map f) (take-suc-set out m w h) ∙ map-append f (take m out) (w ∷ [])
-      in
+-- ---- one label more
+
+module _ (text s : List ℕ) (seed : ℕ) (l index : List ℕ) (few : length index < 4294967296) (room : length l < length index) (a : ChainsOf text s seed l index) where
+  more : (w b : ℕ) (new : List ℕ) → b ≡ bucketOf text s seed (length index) w → new ≡ linked index b (length l) → ChainsOf text s seed (l ++ w ∷ []) new
+  more w b new e z =
+      let f = bucketOf text s seed (length index) in
+      let bs = map f l in
+      let long : length bs ≡ length l = length-map l f in
       let c : Chains (bs ++ f w ∷ []) (linked index (f w) (length bs)) =
-      chains-more bs (f w) index (a .few) (bucket-listed (f w) refl) (omega (arith, a .room, buckets-long)) (a .chains)
+      chains-more bs (f w) index few (bucket-inside text s seed (length index) w (omega arith)) (omega arith) a
       in
-      rw (more, z, e) (subst (λ (j : ℕ). Chains (bs ++ f w ∷ []) (linked index (f w) j)) buckets-long c)
+      rw (z, linked-long index b (length l), map-append f l (w ∷ []), e) (subst (λ (j : ℕ). Chains (bs ++ f w ∷ []) (linked index (f w) j)) long c)
+
+module _ (text s : List ℕ) (seed : ℕ) (out : List ℕ) (j : ℕ) (index : List ℕ) (h : j < length out) (few : length index < 4294967296) (room : j < length index) (a : ChainsOf text s seed (take j out) index) (b : ℕ) (new : List ℕ) (z : new ≡ linked index b j) where
+  long : length (take j out) ≡ j
+  long = length-take-le j out (omega arith)
+
+  after : (w : ℕ) (l : List ℕ) → b ≡ bucketOf text s seed (length index) w → l ≡ take j out ++ w ∷ [] → ChainsOf text s seed l new
+  after w l e q =
+      rw q (more text s seed (take j out) index few (omega (arith, long)) a w b new e (z ∙ ap (linked index b) (sym long)))
+
+  -- the next of a table, and one that is put behind the others
+  pub chains-next : b ≡ bucketOf text s seed (length index) (getD out j 0) → ChainsOf text s seed (take (j + 1) out) new
+  chains-next e = after (getD out j 0) (take (j + 1) out) e (rw add-one (take-suc out j 0 h))
+
+  pub chains-added : (w : ℕ) → b ≡ bucketOf text s seed (length index) w → ChainsOf text s seed (take (j + 1) (set out j w)) new
+  chains-added w e = after w (take (j + 1) (set out j w)) e (rw add-one (take-suc-set out j w h))

@@ -1,13 +1,14 @@
 -- What `put_label` does to `out`, and a turn of `merge_labels`. Assumes nothing.
 use mathlib.Core.Path.{_≡_, refl, ap, sym, subst, _∙_}
-use mathlib.Core.List.{List, [], _∷_, _++_, map}
+use mathlib.Core.List.{List, [], _∷_, _++_}
 use Prim.Native.Nat.{ℕ, suc, _+_, _-_, _≤_, _<_}
 use native.Mathlib.Numerals.{add-one}
 use native.Mathlib.Omega.{arith}
 use lib.ListN.{length, take, drop, getD, set, length-append, length-set, take-append-drop}
 use lib.Seq.{take-suc, take-at, length-take-le, getD-take, set-split, set-append-left, append-snoc, drop-append-add, drop-drop}
 use Rattle.labels.specs.Labels.{moved, firstSame, placed, merged, Placed, Merged}
-use Rattle.labels.specs.Index.{bucketOf, Chains, Distinct, Indexed}
+use Rattle.labels.specs.Index.{Chains, ChainsOf, Distinct, Indexed}
+use Rattle.labels.specs.declared.Merging.{Merging}
 use Rattle.labels.proofs.Same.{merged-distinct}
 use Rattle.labels.proofs.Placing.{placed-found, placed-new, placed-length, merged-append, merged-length}
 
@@ -87,40 +88,53 @@ module _ (text s : List ℕ) where
 
 -- ---- turns of `merge_labels`: after i of n words, with n places for chains
 
-pub record Going (text s words : List ℕ) (n seed : ℕ) (old out chains : List ℕ) (m i : ℕ) : Type 0 where
+pub record Going (text s words : List ℕ) (n : ℕ) (old out chains : List ℕ) (t : Merging) (i : ℕ) : Type 0 where
   pub inside : i ≤ n
   pub out-long : length out ≡ length old
   pub chains-long : length chains ≡ n
-  pub labels : Merged text s (take i words) old out m
-  pub linked : Chains (map (bucketOf text s seed n) (take m out)) chains
+  pub labels : Merged text s (take i words) old out (t .labels)
+  pub linked : ChainsOf text s (t .seed) (take (t .labels) out) chains
 
-module _ (text s words : List ℕ) (n seed : ℕ) (old chains : List ℕ) where
-  pub begins : length chains ≡ n → Chains [] chains → Going text s words n seed old old chains 0 0
-  begins h c = record { inside = omega arith; out-long = refl; chains-long = h; labels = record { count = refl; labels = refl }; linked = c }
+module _ (text s words : List ℕ) (n : ℕ) (old chains : List ℕ) where
+  pub begins : (seed left : ℕ) → length chains ≡ n → Chains [] chains → Going text s words n old old chains (record { labels = 0; seed = seed; left = left }) 0
+  begins seed left h c = record { inside = omega arith; out-long = refl; chains-long = h; labels = record { count = refl; labels = refl }; linked = c }
 
-  module _ (out : List ℕ) (m i : ℕ) (g : Going text s words n seed old out chains m i) (hw : n ≤ length words) (ho : n ≤ length old) (few-words : n < 4294967296) (t : i < n) where
-    at-most : m ≤ i
-    at-most = few text s words old out m i (g .labels) (omega arith)
-
-    pub asks : (m < length out) × Indexed text s seed m out chains
-    asks = (
-      omega (arith, at-most, g .out-long),
-      record {
-        inside = omega (arith, at-most, g .out-long);
-        room = omega (arith, at-most, g .chains-long);
-        few = omega (arith, g .chains-long);
-        distinct = distinct text s words old out m i (g .labels) (omega arith);
-        chains = subst (λ (k : ℕ). Chains (map (bucketOf text s seed k) (take m out)) chains) (sym (g .chains-long)) (g .linked);
-      },
-    )
-
-    pub goes-on : (new chains′ : List ℕ) (r : ℕ) → length new ≡ length out → length chains′ ≡ length chains → Placed text s (getD words i 0) m out new r
-        → Chains (map (bucketOf text s seed (length chains)) (take r new)) chains′ → Going text s words n seed old new chains′ r (i + 1)
-    goes-on new chains′ r e f p c =
+  module _ (out : List ℕ) (t : Merging) (i : ℕ) (g : Going text s words n old out chains t i) where
+    pub spread-out : (chains′ : List ℕ) (r : Merging) → length chains′ ≡ length chains → r .labels ≡ t .labels
+        → ChainsOf text s (r .seed) (take (r .labels) out) chains′ → Going text s words n old out chains′ r i
+    spread-out chains′ r f e c =
         record {
-          inside = omega arith;
-          out-long = e ∙ g .out-long;
+          inside = g .inside;
+          out-long = g .out-long;
           chains-long = f ∙ g .chains-long;
-          labels = again text s words old out m i (g .labels) (omega arith) new r p;
-          linked = subst (λ (k : ℕ). Chains (map (bucketOf text s seed k) (take r new)) chains′) (g .chains-long) c;
+          labels = rw e (g .labels);
+          linked = c;
         }
+
+    module _ (hw : n ≤ length words) (h : i < n) where
+      at-most : t .labels ≤ i
+      at-most = few text s words old out (t .labels) i (g .labels) (omega arith)
+
+      pub asks : n ≤ length old → n < 4294967296 → (t .labels < length out) × Indexed text s (t .seed) (t .labels) out chains
+      asks ho hn = (
+        omega (arith, at-most, g .out-long),
+        record {
+          inside = omega (arith, at-most, g .out-long);
+          room = omega (arith, at-most, g .chains-long);
+          few = omega (arith, g .chains-long);
+          distinct = distinct text s words old out (t .labels) i (g .labels) (omega arith);
+          chains = g .linked;
+        },
+      )
+
+      pub goes-on : (new chains′ : List ℕ) (r : Merging) → length new ≡ length out → length chains′ ≡ length chains
+          → Placed text s (getD words i 0) (t .labels) out new (r .labels) → ChainsOf text s (r .seed) (take (r .labels) new) chains′
+          → Going text s words n old new chains′ r (i + 1)
+      goes-on new chains′ r e f p c =
+          record {
+            inside = omega arith;
+            out-long = e ∙ g .out-long;
+            chains-long = f ∙ g .chains-long;
+            labels = again text s words old out (t .labels) i (g .labels) (omega arith) new (r .labels) p;
+            linked = c;
+          }

@@ -9,13 +9,13 @@ use lib.ListN.{length, take, getD, set}
 use Rattle.labels.specs.Labels.{nameOf, isSame, firstSame}
 use Rattle.labels.specs.declared.Found.{Found}
 
--- bytes as the digits of a number to the base of the seed, modulo a prime
+-- bytes as the digits of a number to the base of the seed, modulo a prime: two names agree for few seeds
 abbrev pub hashOn : ℕ → ℕ → List ℕ → ℕ
 hashOn seed h [] = h
 hashOn seed h (b ∷ bs) = hashOn seed ((h * seed + b) % 4294967291) bs
 
 unfoldable pub bucketOf : List ℕ → List ℕ → ℕ → ℕ → ℕ → ℕ
-bucketOf text s seed n w = hashOn seed (w / 1099511627776) (nameOf text s w) % n
+bucketOf text s seed n w = hashOn seed (w / 1099511627776 + 1) (nameOf text s w) % n
 
 abbrev pub headOf : List ℕ → ℕ → ℕ
 headOf index b = getD index b 0 % 4294967296
@@ -53,15 +53,18 @@ abbrev pub Distinct : List ℕ → List ℕ → List ℕ → Type 0
 Distinct text s [] = Unit {0}
 Distinct text s (v ∷ vs) = Apart text s v vs × Distinct text s vs
 
+abbrev pub ChainsOf : List ℕ → List ℕ → ℕ → List ℕ → List ℕ → Type 0
+ChainsOf text s seed l index = Chains (map (bucketOf text s seed (length index)) l) index
+
 -- the first m words of `out` are labels, none twice, and `index` has their chains
 pub record Indexed (text s : List ℕ) (seed m : ℕ) (out index : List ℕ) : Type 0 where
   pub inside : m ≤ length out
   pub room : m < length index
   pub few : length index < 4294967296
   pub distinct : Distinct text s (take m out)
-  pub chains : Chains (map (bucketOf text s seed (length index)) (take m out)) index
+  pub chains : ChainsOf text s seed (take m out) index
 
 -- where w is among the labels l, and its bucket of n
-pub record Finds (text s : List ℕ) (seed n w : ℕ) (l : List ℕ) (r : Found) : Type 0 where
+pub record Finds (text s : List ℕ) (seed w : ℕ) (l : List ℕ) (n : ℕ) (r : Found) : Type 0 where
   pub place : r .place ≡ firstSame text s w l
   pub bucket : r .bucket ≡ bucketOf text s seed n w

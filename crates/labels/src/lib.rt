@@ -2,17 +2,25 @@
 use entries::token_in;
 use tokens::raw_text;
 ghost use mathlib.Core.Path.{_≡_};
-ghost use Prim.Native.Nat.{_≤_, _<_};
-ghost use mathlib.Core.List.{[], map};
+ghost use Prim.Native.Nat.{_-_, _≤_, _<_};
+ghost use mathlib.Core.List.{[]};
 ghost use lib.ListN.{length, take};
 ghost use Rattle.grammar.specs.Reading.{sameName};
 ghost use Rattle.labels.specs.Labels.{isSame, moved, Placed, Merged};
-ghost use Rattle.labels.specs.Index.{hashOn, bucketOf, linked, Chains, Indexed, Finds};
+ghost use Rattle.labels.specs.Index.{hashOn, bucketOf, linked, Chains, ChainsOf, Indexed, Finds};
 
-// Where a label stands, and its bucket.
+// Where a label stands, its bucket, and how many steps the walk took.
 struct Found {
     place: usize,
     bucket: usize,
+    steps: usize,
+}
+
+// How many labels there are, the seed of their index, and how many steps walks may take before another.
+struct Merging {
+    labels: usize,
+    seed: u32,
+    left: usize,
 }
 
 fn same_bytes(a: &[u8], b: &[u8]) -> bool
@@ -42,6 +50,7 @@ fn same_label(text: &[u8], s: &[u64], w: u64, v: u64) -> bool
     same_bytes(raw_text(text, a), raw_text(text, b))
 }
 
+// The hash of a name, from that of its level on.
 fn hash_on(seed: u32, from: u64, name: &[u8]) -> u64
     requires { ⌜ from < 4294967291 ⌝ }
     ensures { λ r. ⌜ r ≡ hashOn seed from (now (name .entry)) ⌝ }
@@ -62,7 +71,7 @@ fn bucket(text: &[u8], s: &[u64], seed: u32, n: usize, w: u64) -> usize
     ensures { λ r. ⌜ r ≡ bucketOf (now (text .entry)) (now (s .entry)) seed n w ⌝ }
 {
     let t = token_in(s, (w % 1048576) as usize);
-    let h = hash_on(seed, w / 1099511627776, raw_text(text, t));
+    let h = hash_on(seed, w / 1099511627776 + 1, raw_text(text, t));
     h as usize % n
 }
 
@@ -86,6 +95,44 @@ fn link(index: &mut [u64], b: usize, j: usize)
     index[b] = index[b] / 4294967296 * 4294967296 + (j + 1) as u64;
 }
 
+// The chains of the first m words of `out`.
+fn rebuild(text: &[u8], s: &[u64], seed: u32, out: &[u64], m: usize, index: &mut [u64])
+    requires { ⌜ (m ≤ length (now out)) × ((m < length (now index)) × (length (now index) < 4294967296)) ⌝ }
+    ensures { λ _. ⌜ ChainsOf (now (text .entry)) (now (s .entry)) seed (take m (now (out .entry))) (now (index .exit)) ⌝ }
+{
+    clear(index);
+    let mut j = 0;
+    while j < m {
+        let b = bucket(text, s, seed, index.len(), out[j]);
+        link(index, b, j);
+        j += 1;
+    }
+}
+
+// Any seed is right: only speed hangs on it.
+fn next_seed(seed: u32) -> u32 {
+    ((seed as u64 * 1664525 + 1013904223) % 4294967296) as u32
+}
+
+// Once walks have taken too many steps, the index anew with another seed: names made to meet in one bucket cost little more.
+fn spread(text: &[u8], s: &[u64], out: &[u64], t: Merging, index: &mut [u64]) -> Merging
+    requires { ⌜ Indexed (now text) (now s) (t .seed) (t .labels) (now out) (now index) ⌝ }
+    ensures kept { λ r. ⌜ r .labels ≡ t .labels ⌝ }
+    ensures chained { λ r. ⌜ ChainsOf (now (text .entry)) (now (s .entry)) (r .seed) (take (r .labels) (now (out .entry))) (now (index .exit)) ⌝ }
+{
+    if 0 < t.left {
+        return t;
+    }
+    let m = t.labels;
+    let seed = next_seed(t.seed);
+    rebuild(text, s, seed, out, m, index);
+    Merging {
+        labels: m,
+        seed: seed,
+        left: index.len() * 8,
+    }
+}
+
 // The place of the first label of that level and name among the first m, or m: a walk along its bucket's chain.
 fn find_label(
     text: &[u8],
@@ -97,16 +144,19 @@ fn find_label(
     w: u64,
 ) -> Found
     requires { ⌜ Indexed (now text) (now s) seed m (now out) (now index) ⌝ }
-    ensures { λ r. ⌜ Finds (now (text .entry)) (now (s .entry)) seed (length (now (index .entry))) w (take m (now (out .entry))) r ⌝ }
+    ensures { λ r. ⌜ Finds (now (text .entry)) (now (s .entry)) seed w (take m (now (out .entry))) (length (now (index .entry))) r ⌝ }
 {
     let b = bucket(text, s, seed, index.len(), w);
+    let mut steps = 0;
     let mut next = (index[b] % 4294967296) as usize;
     while 0 < next {
         let j = next - 1;
+        steps += 1;
         if same_label(text, s, w, out[j]) {
             return Found {
                 place: j,
                 bucket: b,
+                steps: steps,
             };
         }
         next = (index[j] / 4294967296) as usize;
@@ -114,6 +164,7 @@ fn find_label(
     Found {
         place: m,
         bucket: b,
+        steps: steps,
     }
 }
 
@@ -124,30 +175,49 @@ fn move_label(w: u64, v: u64) -> u64
     v / 1099511627776 * 1099511627776 + w / 1048576 % 1048576 * 1048576 + v % 1048576
 }
 
-// One label more among the first m; how many there are then.
+fn less(a: usize, b: usize) -> usize
+    ensures { λ r. ⌜ r ≡ a - b ⌝ }
+{
+    if a < b {
+        return 0;
+    }
+    a - b
+}
+
+// One label more.
 fn put_label(
     text: &[u8],
     s: &[u64],
-    seed: u32,
     w: u64,
-    m: usize,
+    t: Merging,
     out: &mut [u64],
     index: &mut [u64],
-) -> usize
-    requires { ⌜ (m < length (now out)) × Indexed (now text) (now s) seed m (now out) (now index) ⌝ }
-    ensures placed { λ r. ⌜ Placed (now (text .entry)) (now (s .entry)) w m (now (out .entry)) (now (out .exit)) r ⌝ }
-    ensures chained { λ r. ⌜ Chains (map (bucketOf (now (text .entry)) (now (s .entry)) seed (length (now (index .entry)))) (take r (now (out .exit)))) (now (index .exit)) ⌝ }
+) -> Merging
+    requires { ⌜ (t .labels < length (now out)) × Indexed (now text) (now s) (t .seed) (t .labels) (now out) (now index) ⌝ }
+    ensures placed { λ r. ⌜ Placed (now (text .entry)) (now (s .entry)) w (t .labels) (now (out .entry)) (now (out .exit)) (r .labels) ⌝ }
+    ensures chained { λ r. ⌜ ChainsOf (now (text .entry)) (now (s .entry)) (r .seed) (take (r .labels) (now (out .exit))) (now (index .exit)) ⌝ }
 {
+    let m = t.labels;
+    let seed = t.seed;
     let found = find_label(text, s, seed, out, m, index, w);
     let k = found.place;
+    let left = less(t.left, found.steps);
     if k < m {
         let v = out[k];
         out[k] = move_label(w, v);
-        return m;
+        return Merging {
+            labels: m,
+            seed: seed,
+            left: left,
+        };
     }
     out[m] = w;
     link(index, found.bucket, m);
-    m + 1
+    Merging {
+        labels: m + 1,
+        seed: seed,
+        left: left,
+    }
 }
 
 // The labels of the first n words, at the front of `out`; how many they are.
@@ -165,12 +235,16 @@ pub fn merge_labels(
 {
     let chains = &mut index[..n];
     clear(chains);
-    let seed = 1540483477;
-    let mut m = 0;
+    let mut t = Merging {
+        labels: 0,
+        seed: 1540483477,
+        left: n * 8,
+    };
     let mut i = 0;
     while i < n {
-        m = put_label(text, s, seed, words[i], m, out, chains);
+        t = spread(text, s, out, t, chains);
+        t = put_label(text, s, words[i], t, out, chains);
         i += 1;
     }
-    m
+    t.labels
 }

@@ -1,7 +1,7 @@
 -- `labels::find_label` meets its contract. The invariant: the labels behind are passed. Assumes nothing.
 use borrow.Author.Needs.{needs}
 use mathlib.Core.Path.{_≡_, sym, _∙_}
-use Prim.Native.Nat.{_-_, _<_}
+use Prim.Native.Nat.{_+_, _-_, _≤_, _<_}
 use native.Mathlib.Omega.{arith}
 use lib.ListN.{length}
 use Rattle.labels.specs.Index.{bucketOf}
@@ -10,10 +10,10 @@ use Rattle.labels.proofs.find_label.Statement.{statement}
 use Rattle.labels.proofs.find_label.Tie as tie
 
 abbrev Inv-loop : tie.InvT-loop
-Inv-loop text s seed out m index w b next₀ next = (b ≡ bucketOf text s seed (length index) w) × Past text s seed (length index) m out w next
+Inv-loop text s seed out m index w b steps₀ next₀ steps next = (b ≡ bucketOf text s seed (length index) w) × ((steps + next ≤ m) × Past text s seed (length index) m out w next)
 
 abbrev μ-loop : tie.MeasureT-loop
-μ-loop text s seed out m index w b next₀ next = next
+μ-loop text s seed out m index w b steps₀ next₀ steps next = next
 
 listed : (c : tie.After-bucket Inv-loop μ-loop) → c .bucket .result < length (c .before .before .before .before .before .args .index .now)
 listed c =
@@ -26,7 +26,8 @@ begins c =
     let p = c .before .before .before .before .before .before in
     let a = p .args in
     let b = c .before .bucket in
-    (b .ensures, walk-begins (a .text .now) (a .s .now) (a .seed) (a .m) (a .out .now) (a .index .now) (p .pre) (a .w) (b .result) (b .ensures))
+    let w = walk-begins (a .text .now) (a .s .now) (a .seed) (a .m) (a .out .now) (a .index .now) (p .pre) (a .w) (b .result) (b .ensures) in
+    (b .ensures, (omega (arith, w .inside), w))
 
 finds : tie.Need-returns Inv-loop μ-loop
 finds c =
@@ -35,7 +36,7 @@ finds c =
     let l = c .before .before .before .before .loop in
     record {
       place =
-          walk-found (a .text .now) (a .s .now) (a .seed) (a .m) (a .out .now) (a .index .now) (p .pre) (a .w) (l .next) (l .inv .1) (l .next - 1) (omega arith)
+          walk-found (a .text .now) (a .s .now) (a .seed) (a .m) (a .out .now) (a .index .now) (p .pre) (a .w) (l .next) (l .inv .1 .1) (l .next - 1) (omega arith)
           (sym (c .if1 .taken) ∙ c .before .same-label .ensures);
       bucket = l .inv .0;
     }
@@ -45,7 +46,7 @@ less c =
     let p = c .before .before .before .before .before .before .before .before .before .before .before .before in
     let a = p .args in
     let l = c .before .before .before .before .before .loop in
-    next-less (a .text .now) (a .s .now) (a .seed) (a .m) (a .out .now) (a .index .now) (p .pre) (a .w) (l .next) (l .inv .1) (l .next - 1) (omega arith)
+    next-less (a .text .now) (a .s .now) (a .seed) (a .m) (a .out .now) (a .index .now) (p .pre) (a .w) (l .next) (l .inv .1 .1) (l .next - 1) (omega arith)
 
 again : tie.Need-loop-again Inv-loop μ-loop
 again c =
@@ -53,8 +54,11 @@ again c =
     let a = p .args in
     let l = c .before .before .before .before .before .loop in (
       l .inv .0,
-      walk-on (a .text .now) (a .s .now) (a .seed) (a .m) (a .out .now) (a .index .now) (p .pre) (a .w) (l .next) (l .inv .1) (l .next - 1) (omega arith)
-          (sym (c .before .if1 .left) ∙ c .before .before .same-label .ensures),
+      (
+        omega (arith, less c),
+        walk-on (a .text .now) (a .s .now) (a .seed) (a .m) (a .out .now) (a .index .now) (p .pre) (a .w) (l .next) (l .inv .1 .1) (l .next - 1) (omega arith)
+            (sym (c .before .if1 .left) ∙ c .before .before .same-label .ensures),
+      ),
     )
 
 ends : tie.Need-returns-2 Inv-loop μ-loop
@@ -63,7 +67,7 @@ ends c =
     let a = p .args in
     let l = c .before .loop in
     record {
-      place = walk-ends (a .text .now) (a .s .now) (a .seed) (a .m) (a .out .now) (a .index .now) (p .pre) (a .w) (l .next) (l .inv .1) (c .loop-test .left);
+      place = walk-ends (a .text .now) (a .s .now) (a .seed) (a .m) (a .out .now) (a .index .now) (p .pre) (a .w) (l .next) (l .inv .1 .1) (c .loop-test .left);
       bucket = l .inv .0;
     }
 
@@ -79,11 +83,12 @@ find-label-spec =
     begins
     (λ c. search needs)
     (λ c. search needs)
-    (λ c. omega (arith, c .before .before .loop .inv .1 .inside, c .before .before .before .before .before .before .before .before .before .pre .inside))
+    (λ c. search needs)
+    (λ c. omega (arith, c .before .before .loop .inv .1 .1 .inside, c .before .before .before .before .before .before .before .before .before .pre .inside))
     (λ c κs. search needs)
     finds
     (λ c. search needs)
-    (λ c. omega (arith, c .before .before .before .before .before .loop .inv .1 .inside, c .before .before .before .before .before .before .before .before .before .before .before .before .pre .room))
+    (λ c. omega (arith, c .before .before .before .before .before .loop .inv .1 .1 .inside, c .before .before .before .before .before .before .before .before .before .before .before .before .pre .room))
     less
     again
     ends)
