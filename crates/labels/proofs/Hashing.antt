@@ -1,8 +1,8 @@
 -- A hash goes on by one byte; it goes by level and name. Assumes nothing.
-use mathlib.Core.Path.{_≡_, refl, ap, sym, _∙_}
+use mathlib.Core.Path.{_≡_, ap, sym, _∙_}
 use mathlib.Core.Bool.{true}
-use mathlib.Core.List.{List, [], _∷_}
-use Prim.Native.Nat.{ℕ, suc, _+_, _*_, _/_, _%_, _^_, _≤_, _<_}
+use mathlib.Core.List.{List}
+use Prim.Native.Nat.{ℕ, _+_, _*_, _/_, _%_, _≤_, _<_}
 use native.Mathlib.Nat.{mod-lt, mul-le-mul}
 use native.Mathlib.Numerals.{add-one}
 use native.Mathlib.Omega.{arith}
@@ -10,11 +10,11 @@ use lib.ListN.{length, drop, getD, drop-of-length-le}
 use lib.Seq.{drop-cons}
 use Rattle.tokens.specs.declared.Token.{Token}
 use Rattle.tokens.specs.Tokens.{tokenOf, rawText}
-use Rattle.labels.specs.Labels.{nameOf, isSame}
+use Rattle.labels.specs.Labels.{isSame}
 use Rattle.labels.specs.Index.{hashOn, bucketOf}
 use Rattle.labels.proofs.Same.{same-equal}
 
--- a product and a byte fit 64 bits
+-- a product leaves room for a byte in 64 bits
 pub product-fits : (h seed : ℕ) → h < 4294967291 → seed < 4294967296 → h * seed ≤ 4294967290 * 4294967295
 product-fits h seed a b = mul-le-mul {n₁ = h} {m₁ = seed} {n₂ = 4294967290} {m₂ = 4294967295} (omega arith) (omega arith)
 

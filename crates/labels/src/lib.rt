@@ -1,4 +1,5 @@
 // Labels of one name and level brought together: written again, a label keeps its first place and takes the new position.
+// Where it is, chains of labels by a hash of level and name tell, in lent memory (specs/Index.antt).
 use entries::token_in;
 use tokens::raw_text;
 ghost use mathlib.Core.Path.{_≡_};
@@ -75,6 +76,7 @@ fn bucket(text: &[u8], s: &[u64], seed: u32, n: usize, w: u64) -> usize
     h as usize % n
 }
 
+// No chains.
 fn clear(index: &mut [u64])
     ensures { λ _. ⌜ Chains [] (now (index .exit)) ⌝ }
 {
@@ -128,7 +130,7 @@ fn spread(text: &[u8], s: &[u64], out: &[u64], t: Merging, index: &mut [u64]) ->
     rebuild(text, s, seed, out, m, index);
     Merging {
         labels: m,
-        seed: seed,
+        seed,
         left: index.len() * 8,
     }
 }
@@ -156,7 +158,7 @@ fn find_label(
             return Found {
                 place: j,
                 bucket: b,
-                steps: steps,
+                steps,
             };
         }
         next = (index[j] / 4294967296) as usize;
@@ -164,7 +166,7 @@ fn find_label(
     Found {
         place: m,
         bucket: b,
-        steps: steps,
+        steps,
     }
 }
 
@@ -175,6 +177,7 @@ fn move_label(w: u64, v: u64) -> u64
     v / 1099511627776 * 1099511627776 + w / 1048576 % 1048576 * 1048576 + v % 1048576
 }
 
+// a - b, but not below 0.
 fn less(a: usize, b: usize) -> usize
     ensures { λ r. ⌜ r ≡ a - b ⌝ }
 {
@@ -207,16 +210,16 @@ fn put_label(
         out[k] = move_label(w, v);
         return Merging {
             labels: m,
-            seed: seed,
-            left: left,
+            seed,
+            left,
         };
     }
     out[m] = w;
     link(index, found.bucket, m);
     Merging {
         labels: m + 1,
-        seed: seed,
-        left: left,
+        seed,
+        left,
     }
 }
 
