@@ -3,6 +3,7 @@ use numbers::Natural;
 use tokens::TokenKind;
 ghost use mathlib.Core.Path.{_≡_};
 ghost use Prim.Native.Nat.{_≤_};
+ghost use Rattle.words.specs.Tables.{Lent};
 ghost use Rattle.words.specs.Words.{indexIn};
 ghost use Rattle.keywords.specs.Keywords.{numberAfter, keywordWords, named, wordKind};
 
@@ -44,10 +45,11 @@ fn find_keyword(w: &[u8]) -> usize
 }
 
 // A word with no number behind it.
-fn named_kind(w: &[u8]) -> TokenKind
+fn named_kind(w: &[u8], letters: &[u8], starts: &[usize], firsts: &[usize]) -> TokenKind
+    requires { ⌜ Lent (now letters) (now starts) (now firsts) ⌝ }
     ensures { λ r. ⌜ r ≡ named (now (w .entry)) ⌝ }
 {
-    let i = words::find_action(w);
+    let i = words::find_name(w, letters, starts, firsts);
     if i < 100 {
         return TokenKind::ActionName(actions::action_at(i));
     }
@@ -58,8 +60,9 @@ fn named_kind(w: &[u8]) -> TokenKind
     TokenKind::Identifier
 }
 
-// The kind of a word.
-pub fn word_kind(w: &[u8]) -> TokenKind
+// The kind of a word. The tables are those of the 100 names.
+pub fn word_kind(w: &[u8], letters: &[u8], starts: &[usize], firsts: &[usize]) -> TokenKind
+    requires { ⌜ Lent (now letters) (now starts) (now firsts) ⌝ }
     ensures { λ r. ⌜ r ≡ wordKind (now (w .entry)) ⌝ }
 {
     let constant = number_after(b"constant", 65535, w);
@@ -70,5 +73,5 @@ pub fn word_kind(w: &[u8]) -> TokenKind
     if let Natural::Is(n) = register {
         return TokenKind::Register(n as u8);
     }
-    named_kind(w)
+    named_kind(w, letters, starts, firsts)
 }

@@ -21,6 +21,12 @@ none-of [] n h = refl
 none-of (k ∷ []) n h = simp (ne-eqb n k h)
 none-of (k ∷ j ∷ ks) n h = simp (ne-eqb n k (λ e. h (inl e))) (none-of (j ∷ ks) n (λ o. h (inr o)))
 
+-- two functions that are alike on m numbers from a on
+pub alike : {S : Type 0} (f g : ℕ → S) (n a m : ℕ) → tabulate (λ k. f (a + k)) 0 m ≡ tabulate (λ k. g (a + k)) 0 m → a ≤ n → n < a + m → f n ≡ g n
+alike f g n a m e h l =
+    let q : a + (n - a) ≡ n = omega arith in
+    ap f (sym q) ∙ agree (λ k. f (a + k)) (λ k. g (a + k)) m (n - a) e (omega arith) ∙ ap g q
+
 module _ {S : Type 0} (f : ℕ → S) (v : S) (n : ℕ) where
   -- an arm of several numbers
   pub arm : (ks : List ℕ) → map f ks ≡ replicate (length ks) v → OneOf ks n → v ≡ f n
@@ -31,9 +37,7 @@ module _ {S : Type 0} (f : ℕ → S) (v : S) (n : ℕ) where
 
   -- an arm of a range: m numbers from a on
   pub range : (a m : ℕ) → tabulate (λ k. f (a + k)) 0 m ≡ tabulate (λ k. v) 0 m → a ≤ n → n < a + m → v ≡ f n
-  range a m e h g =
-      let q : a + (n - a) ≡ n = omega arith in
-      sym (agree (λ k. f (a + k)) (λ k. v) m (n - a) e (omega arith)) ∙ ap f q
+  range a m e h g = sym (alike f (λ k. v) n a m e h g)
 
 -- the arm of what is left, within a range: the numbers that `skip` tells, those of other arms, do not count
 pub other : {S : Type 0} (f : ℕ → S) (v : S) (n : ℕ) (skip : ℕ → Bool) (a m : ℕ)

@@ -4,6 +4,7 @@ use tokens::TokenKind;
 ghost use mathlib.Core.Path.{_≡_};
 ghost use Prim.Native.Nat.{_-_, _≤_, _<_};
 ghost use lib.ListN.{length, drop};
+ghost use Rattle.words.specs.Tables.{Lent};
 ghost use Rattle.lexer.specs.First.{classOf, returnAt, wordAt, numberAt, stringAt, first};
 ghost use Rattle.lexer.specs.Lexing.{Lexes};
 ghost use Rattle.lexer.specs.Scratch.{Fitting, Stored, LexesUtf8};
@@ -64,12 +65,13 @@ fn return_at(s: &[u8]) -> Found
     Found::Token(TokenKind::Newline, 1)
 }
 
-fn word_at(s: &[u8]) -> Found
+fn word_at(s: &[u8], letters: &[u8], starts: &[usize], firsts: &[usize]) -> Found
+    requires { ⌜ Lent (now letters) (now starts) (now firsts) ⌝ }
     requires { ⌜ 0 < length (now s) ⌝ }
     ensures { λ r. ⌜ r ≡ wordAt (now (s .entry)) ⌝ }
 {
     let e = scanner::word_end(s, 1);
-    Found::Token(keywords::word_kind(&s[..e]), e)
+    Found::Token(keywords::word_kind(&s[..e], letters, starts, firsts), e)
 }
 
 fn number_at(s: &[u8]) -> Found
@@ -102,7 +104,8 @@ fn string_at(s: &[u8]) -> Found
 }
 
 // What a text that is not empty starts with.
-fn first_token(s: &[u8]) -> Found
+fn first_token(s: &[u8], letters: &[u8], starts: &[usize], firsts: &[usize]) -> Found
+    requires { ⌜ Lent (now letters) (now starts) (now firsts) ⌝ }
     requires { ⌜ 0 < length (now s) ⌝ }
     ensures { λ r. ⌜ r ≡ first (now (s .entry)) ⌝ }
 {
@@ -111,7 +114,7 @@ fn first_token(s: &[u8]) -> Found
         Class::Blank => Found::Blank,
         Class::One(k) => Found::Token(k, 1),
         Class::Return => return_at(s),
-        Class::Word => word_at(s),
+        Class::Word => word_at(s, letters, starts, firsts),
         Class::Number => number_at(s),
         Class::Quote => string_at(s),
         Class::Other => Found::Token(TokenKind::Unknown, s.len()),
@@ -119,22 +122,30 @@ fn first_token(s: &[u8]) -> Found
 }
 
 // What stands at a byte of a text.
-fn token_at(text: &[u8], at: usize) -> Found
+fn token_at(text: &[u8], at: usize, letters: &[u8], starts: &[usize], firsts: &[usize]) -> Found
+    requires { ⌜ Lent (now letters) (now starts) (now firsts) ⌝ }
     requires { ⌜ at < length (now text) ⌝ }
     ensures { λ r. ⌜ (r ≡ first (drop at (now (text .entry)))) × Fitting (length (now (text .entry)) - at) r ⌝ }
 {
-    first_token(&text[at..])
+    first_token(&text[at..], letters, starts, firsts)
 }
 
-// All tokens into a table that has a place for each byte; of that table after a refusal nothing is said.
-pub fn lex_into(text: &[u8], words: &mut [u64]) -> Lexing
+// The tokens of a text, one after another; the tables are those of the 100 names.
+fn lex_all(
+    text: &[u8],
+    letters: &[u8],
+    starts: &[usize],
+    firsts: &[usize],
+    words: &mut [u64],
+) -> Lexing
+    requires { ⌜ Lent (now letters) (now starts) (now firsts) ⌝ }
     requires { ⌜ (length (now text) ≤ 65536) × (length (now text) ≤ length (now words)) ⌝ }
     ensures { λ r. ⌜ Stored (now (text .entry)) (now (words .exit)) r ⌝ }
 {
     let mut at = 0;
     let mut n = 0;
     while at < text.len() {
-        let found = token_at(text, at);
+        let found = token_at(text, at, letters, starts, firsts);
         match found {
             Found::Blank => {
                 at += 1;
@@ -156,6 +167,14 @@ pub fn lex_into(text: &[u8], words: &mut [u64]) -> Lexing
         }
     }
     Lexing::Tokens(n)
+}
+
+// All tokens into a table that has a place for each byte; of that table after a refusal nothing is said.
+pub fn lex_into(text: &[u8], words: &mut [u64]) -> Lexing
+    requires { ⌜ (length (now text) ≤ 65536) × (length (now text) ≤ length (now words)) ⌝ }
+    ensures { λ r. ⌜ Stored (now (text .entry)) (now (words .exit)) r ⌝ }
+{
+    lex_all(text, &words::LETTERS, &words::STARTS, &words::FIRSTS, words)
 }
 
 // Lexes into scratch that has a place for each byte, and hands over what is accepted and fits.

@@ -24,16 +24,23 @@ pub fn is_digit(b: u8) -> bool
     b <= 57
 }
 
+// Small letters are the most frequent, so they are asked for first.
 fn is_word_byte(b: u8) -> bool
     ensures { λ r. ⌜ r ≡ isWordByte b ⌝ }
 {
-    match b {
-        b'_' | b'$' => true,
-        b'0'..=b'9' => true,
-        b'a'..=b'z' => true,
-        b'A'..=b'Z' => true,
-        _ => false,
+    if b'a' <= b {
+        return b <= b'z';
     }
+    if b'A' <= b {
+        if b <= b'Z' {
+            return true;
+        }
+        return b == b'_';
+    }
+    if b'0' <= b {
+        return b <= b'9';
+    }
+    b == b'$'
 }
 
 fn passes(words: bool, b: u8) -> bool

@@ -1,6 +1,6 @@
 -- A name whose first letter has another number than the word's is not the word: the names of its letter are enough to search.
 -- Assumes nothing.
-use mathlib.Core.Path.{_≡_, refl, ap, sym, _∙_}
+use mathlib.Core.Path.{_≡_, refl, ap, sym, subst, _∙_}
 use mathlib.Core.Bool.{Bool, true, false, cond, not, _&&_, and-eq-true-iff}
 use mathlib.Core.List.{List, [], _∷_}
 use Prim.Native.Nat.{ℕ, zero, suc, _+_, _%_, _<_, _≤_}
@@ -12,7 +12,7 @@ use lib.Seq.{slice, length-take-le}
 use borrow.Author.Tests.{eqb-false, leb-true, ne-eqb, not-true}
 use Rattle.laws.proofs.Tabulate.{agree, tabulate}
 use Rattle.words.specs.Spellings.{bytes, spellings}
-use Rattle.words.specs.Tables.{Entry}
+use Rattle.words.specs.Tables.{Entry, Lent}
 use Rattle.words.specs.Words.{lower, sameWord, indexIn}
 
 -- no name has the letter j
@@ -87,7 +87,7 @@ abbrev apart : ℕ → ℕ → ℕ → Bool
 apart j l h = leb l h && leb h 100 && clear j (take l (take h spellings)) && clear j (drop h spellings)
 
 -- two entries of a table that passes the test at each letter
-pub range : {fs : List ℕ} {j l h : ℕ} → Entry fs j l → Entry fs (j + 1) h → j < 32
+range : {fs : List ℕ} {j l h : ℕ} → Entry fs j l → Entry fs (j + 1) h → j < 32
     → tabulate (λ k. apart k (getD fs k 0) (getD fs (k + 1) 0)) 0 32 ≡ tabulate (λ k. true) 0 32
     → Range j l h
 range {fs} {j} {l} {h} el eh s e =
@@ -97,6 +97,16 @@ range {fs} {j} {l} {h} el eh s e =
     let q = and-eq-true-iff _ (clear j (take l (take h spellings))) .0 (p .0) in
     let r = and-eq-true-iff (leb l h) (leb h 100) .0 (q .0) in
     record { ordered = leb-true l h (r .0); inside = leb-true h 100 (r .1); before = q .1; after = p .1 }
+
+-- what the entries of the letters are
+module _ {letters starts firsts : List ℕ} (t : Lent letters starts firsts) where
+  pub firsts-long : length firsts ≡ 33
+  firsts-long = ap length (t .first)
+
+  pub letter-range : {j l h : ℕ} → Entry firsts j l → Entry firsts (j + 1) h → j < 32 → Range j l h
+  unfolding bytes spellings
+  letter-range {j} {l} {h} el eh s =
+      range (subst (λ (f : List ℕ). Entry f j l) (t .first) el) (subst (λ (f : List ℕ). Entry f (j + 1) h) (t .first) eh) s refl
 
 module _ (l h i : ℕ) where
   in-range : (x : ℕ) (w : List ℕ) → Range (x % 32) l h → i ≡ l + indexIn (x ∷ w) (slice l h spellings)

@@ -1,11 +1,12 @@
 -- Names as a table holds them: their letters one name after another, and where each name starts. Only the contracts of
--- `find_between` and `entry` cite it: those of `find_action` and `word_kind` do not.
+-- `find_between` and `entry` cite it, and what `find_action` and its callers ask of the tables that they are lent.
 use mathlib.Core.Path.{_≡_}
-use mathlib.Core.Bool.{Bool, true, _&&_}
+use mathlib.Core.Bool.{Bool, true, cond, _&&_}
 use mathlib.Core.List.{List, [], _∷_}
-use Prim.Native.Nat.{ℕ, _-_}
-use lib.Dec.{leb}
-use lib.ListN.{take, drop, getD}
+use Prim.Native.Nat.{ℕ, zero, suc, _+_, _-_, _%_}
+use lib.Dec.{leb, ltb}
+use lib.ListN.{length, take, drop, getD}
+use Rattle.words.specs.Spellings.{spellings}
 
 -- the parts of the letters: from a to the first of the starts, from there to the next, ..
 abbrev pub cutFrom : ℕ → List ℕ → List ℕ → List (List ℕ)
@@ -24,3 +25,20 @@ inOrder a (b ∷ o) n = leb a b && leb b n && inOrder b o n
 
 pub record Entry (t : List ℕ) (i x : ℕ) : Type 0 where
   pub is : x ≡ getD t i 0
+
+-- how many names have a first letter whose number is below j, A and a being 1
+abbrev pub namesBelow : ℕ → List (List ℕ) → ℕ
+namesBelow j [] = 0
+namesBelow j (n ∷ ns) = cond (ltb (getD n 0 0 % 32) j) 1 0 + namesBelow j ns
+
+-- that of j and of the k letters behind it
+abbrev pub firstsFrom : ℕ → ℕ → List (List ℕ) → List ℕ
+firstsFrom j zero ns = namesBelow j ns ∷ []
+firstsFrom j (suc k) ns = namesBelow j ns ∷ firstsFrom (suc j) k ns
+
+-- the tables of the 100 names: the letters cut at the starts are the names, and the names of each letter stand together
+pub record Lent (letters starts firsts : List ℕ) : Type 0 where
+  pub names : cut starts letters ≡ spellings
+  pub ordered : inOrder 0 starts (length letters) ≡ true
+  pub long : length starts ≡ 101
+  pub first : firsts ≡ firstsFrom 0 32 spellings

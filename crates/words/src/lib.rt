@@ -8,7 +8,7 @@ ghost use lib.ListN.{length};
 ghost use lib.Seq.{slice};
 ghost use Rattle.words.specs.Spellings.{allLetters, spellings, spellingOf};
 ghost use Rattle.words.specs.Words.{lower, sameWord, indexIn};
-ghost use Rattle.words.specs.Tables.{Entry, cut, inOrder};
+ghost use Rattle.words.specs.Tables.{Entry, Lent, cut, inOrder};
 
 // The letters of all names, one name after another.
 pub const LETTERS: [u8; 856] =
@@ -120,7 +120,7 @@ pub const STARTS: [usize; 101] = [
 ];
 
 // Where the names begin whose first letter has each number, A and a being 1, and their end.
-const FIRSTS: [usize; 33] = [
+pub const FIRSTS: [usize; 33] = [
     0, // no letter
     0, // A
     4, // B
@@ -216,7 +216,7 @@ pub fn find_between(w: &[u8], letters: &[u8], starts: &[usize], lo: usize, hi: u
     k
 }
 
-// A table's entry. A table that is lent stays where it is; one that is indexed by its name is copied first.
+// A table's entry.
 fn entry(t: &[usize], i: usize) -> usize
     requires { ⌜ i < length (now t) ⌝ }
     ensures { λ r. ⌜ Entry (now (t .entry)) i r ⌝ }
@@ -224,19 +224,28 @@ fn entry(t: &[usize], i: usize) -> usize
     t[i]
 }
 
-// The number of the action that the word names, or 100. Only names with the word's first letter are looked at.
-pub fn find_action(w: &[u8]) -> usize
+// The number of the action that the word names, or 100. Only names with the word's first letter are looked at. Who goes over a whole
+// text lends the tables once: a constant is copied each time it is named.
+pub fn find_name(w: &[u8], letters: &[u8], starts: &[usize], firsts: &[usize]) -> usize
+    requires { ⌜ Lent (now letters) (now starts) (now firsts) ⌝ }
     ensures { λ r. ⌜ r ≡ indexIn (now (w .entry)) spellings ⌝ }
 {
     if w.len() == 0 {
         return 100;
     }
     let letter = (w[0] % 32) as usize;
-    let lo = entry(&FIRSTS, letter);
-    let hi = entry(&FIRSTS, letter + 1);
-    let i = find_between(w, &LETTERS, &STARTS, lo, hi);
+    let lo = entry(firsts, letter);
+    let hi = entry(firsts, letter + 1);
+    let i = find_between(w, letters, starts, lo, hi);
     if i < hi {
         return i;
     }
     100
+}
+
+// The same where no tables are at hand.
+pub fn find_action(w: &[u8]) -> usize
+    ensures { λ r. ⌜ r ≡ indexIn (now (w .entry)) spellings ⌝ }
+{
+    find_name(w, &LETTERS, &STARTS, &FIRSTS)
 }

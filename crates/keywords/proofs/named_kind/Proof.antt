@@ -8,23 +8,23 @@ use Rattle.keywords.proofs.named_kind.Tie as tie
 
 action : tie.Need-returns
 action c =
-    let i = c .before .before .find-action in
+    let i = c .before .before .find-name in
     ap K.ActionName (c .action-at .ensures)
-    ∙ laws.action (c .before .before .before .before .args .w .now) (i .result) (i .ensures) (c .before .if1 .taken)
+    ∙ laws.action (c .before .before .before .before .before .before .before .args .w .now) (i .result) (i .ensures) (c .before .if1 .taken)
 
 keyword : tie.Need-returns-2
 keyword c =
     let j = c .before .before .find-keyword in
-    let i = c .before .before .before .before .find-action in
-    laws.keyword (c .before .before .before .before .before .before .args .w .now) (i .result) (i .ensures)
+    let i = c .before .before .before .before .find-name in
+    laws.keyword (c .before .before .before .before .before .before .before .before .before .args .w .now) (i .result) (i .ensures)
     (c .before .before .before .if1 .left)
     (j .result) (j .ensures) (c .before .if2 .taken)
 
 identifier : tie.Need-returns-3
 identifier c =
     let j = c .before .find-keyword in
-    let i = c .before .before .before .find-action in
-    laws.identifier (c .before .before .before .before .before .args .w .now) (i .result) (i .ensures) (c .before .before .if1 .left)
+    let i = c .before .before .before .find-name in
+    laws.identifier (c .before .before .before .before .before .before .before .before .args .w .now) (i .result) (i .ensures) (c .before .before .if1 .left)
     (j .result) (j .ensures) (c .if2 .left)
 
 pub named-kind-spec : {M : Type 1} → statement M

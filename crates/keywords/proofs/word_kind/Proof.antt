@@ -8,7 +8,7 @@ use Rattle.keywords.proofs.WordKinds as laws
 use Rattle.keywords.proofs.word_kind.Statement.{statement}
 use Rattle.keywords.proofs.word_kind.Tie as tie
 
-constant-fits : tie.Need-cast-t10
+constant-fits : tie.Need-cast-t13
 constant-fits c =
     let n = c .before .constant .given in
     omega (arith, small _ 65535 _ (n .0 .0) (sym (c .before .before .before .number-after .ensures) ∙ n .1))
@@ -20,7 +20,7 @@ constant c =
     let x = c .before .before .before .number-after in
     laws.constant _ (x .result) (x .ensures) (n .0 .0) (n .1)
 
-register-fits : tie.Need-cast-t13
+register-fits : tie.Need-cast-t16
 register-fits c =
     let n = c .before .register .given in
     omega (arith, small _ 255 _ (n .0 .0) (sym (c .before .before .before .number-after2 .ensures) ∙ n .1))

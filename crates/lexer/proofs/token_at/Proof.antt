@@ -6,9 +6,9 @@ use Rattle.lexer.proofs.token_at.Tie as tie
 
 returns : tie.Need-returns
 returns c =
-    let f = c .before .before .before in (
-      at-byte (f .args .text .now) (f .args .at) (f .pre) _ (c .first-token .ensures),
-      at-byte-fits (f .args .text .now) (f .args .at) (f .pre) _ (c .first-token .ensures),
+    let f = c .before .before .before .before .before .before in (
+      at-byte (f .args .text .now) (f .args .at) (f .pre .1) _ (c .first-token .ensures),
+      at-byte-fits (f .args .text .now) (f .args .at) (f .pre .1) _ (c .first-token .ensures),
     )
 
 pub token-at-spec : {M : Type 1} → statement M

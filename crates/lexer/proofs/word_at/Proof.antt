@@ -10,8 +10,8 @@ use Rattle.lexer.proofs.word_at.Tie as tie
 
 inside : tie.Need-slice-aggregate-word-kind
 inside c =
-    let f = c .before .before .before in
-    simp length-take (omega (arith, c .before .word-end .ensures, run-fits isWordByte (f .args .s .now) 1 (f .pre)))
+    let f = c .before .before .before .before .before .before in
+    simp length-take (omega (arith, c .before .word-end .ensures, run-fits isWordByte (f .args .s .now) 1 (f .pre .1)))
 
 returns : tie.Need-returns
 unfolding wordAt
