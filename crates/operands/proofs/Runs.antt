@@ -141,11 +141,13 @@ module _ (f : ℕ → List Symbol) (text s : List ℕ) where
 -- ---- an operand
 
 -- an operand is logged where a test says that it is one
-pub operand-ok : (text s a b : List ℕ) (c d : At) (m : Class) (ok : Bool) → Fine text s c → ok ≡ fitsAt m text s (c .at) → ok ≡ true →
+pub fits-so : (text s : List ℕ) (at : ℕ) (m : Class) (ok : Bool) → ok ≡ fitsAt m text s at → ok ≡ true → fitsAt m text s at ≡ true
+fits-so text s at m ok e₁ e₂ = sym e₁ ∙ e₂
+
+pub given-ok : (text s a b : List ℕ) (c d : At) (m : Class) → Fine text s c → fitsAt m text s (c .at) ≡ true →
     b ≡ set a (c .events) (logWord 2 (c .at)) → d ≡ logged c → OperandRead m text s a b c (To d)
 unfolding outcome Ahead classAt
-operand-ok text s a b c d m ok f e₁ e₂ p q =
-    let e = sym e₁ ∙ e₂ in
+given-ok text s a b c d m f e p q =
     let i = fits-there m text s (c .at) e in
     let x : isOperand (classOf m) (lexemeOf text (c .at) (getD s (c .at) 0)) ≡ true = sym (fits-inside m text s (c .at) i) ∙ e in
     rw (p, q) (record {

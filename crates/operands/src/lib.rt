@@ -10,7 +10,7 @@ use values::u8_of;
 use values::u16_of;
 use values::value;
 ghost use mathlib.Core.Path.{_≡_};
-ghost use mathlib.Core.Bool.{_||_};
+ghost use mathlib.Core.Bool.{true, _||_};
 ghost use lib.Dec.{eqb};
 ghost use Prim.Native.Nat.{_≤_, _<_};
 ghost use lib.ListN.{length, set};
@@ -197,17 +197,27 @@ pub fn logged(c: At) -> At
 
 // ---- operands
 
+// An operand that is known to fit.
+fn given(text: &[u8], s: &[u64], events: &mut [u64], c: At, m: Class) -> Step
+    requires { ⌜ Fine (now text) (now s) c ⌝ }
+    requires { ⌜ fitsAt m (now text) (now s) (c .at) ≡ true ⌝ }
+    ensures { λ r. ⌜ OperandRead m (now (text .entry)) (now (s .entry)) (now (events .entry)) (now (events .exit)) c r ⌝ }
+{
+    let at = c.at;
+    let n = c.events;
+    write_event(events, n, GIVEN, at as u64);
+    let d = logged(c);
+    Step::To(d)
+}
+
 pub fn operand(text: &[u8], s: &[u64], events: &mut [u64], c: At, m: Class) -> Step
     requires { ⌜ Fine (now text) (now s) c ⌝ }
     ensures { λ r. ⌜ OperandRead m (now (text .entry)) (now (s .entry)) (now (events .entry)) (now (events .exit)) c r ⌝ }
 {
     let at = c.at;
-    let n = c.events;
     let ok = fits_at(text, s, at, m);
     if ok {
-        write_event(events, n, GIVEN, at as u64);
-        let d = logged(c);
-        Step::To(d)
+        given(text, s, events, c, m)
     } else {
         Step::Bad(at)
     }
@@ -463,7 +473,7 @@ fn values(text: &[u8], s: &[u64], events: &mut [u64], c: At, m: Class) -> Step
     let at = c.at;
     let ok = fits_at(text, s, at, m);
     if ok {
-        let r = operand(text, s, events, c, m);
+        let r = given(text, s, events, c, m);
         let Step::To(d) = r else {
             return r;
         };

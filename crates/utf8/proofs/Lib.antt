@@ -2,3 +2,4 @@ mod Bench
 pub mod Starts
 pub mod Rows
 pub mod Valid
+pub mod Front

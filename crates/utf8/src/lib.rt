@@ -2,9 +2,10 @@
 ghost use mathlib.Core.Path.{_≡_};
 ghost use mathlib.Core.Bool.{cond};
 ghost use mathlib.Core.List.{[], _∷_};
-ghost use Prim.Native.Nat.{_<_};
+ghost use Prim.Native.Nat.{_+_, _<_, _≤_};
 ghost use lib.ListN.{length, drop};
 ghost use Rattle.utf8.specs.Utf8.{_to_, tail, starts, charLen, validUpTo};
+ghost use Rattle.utf8.specs.Front.{fourAscii, ValidFront};
 
 // Whether a byte stands at an index, and within a range.
 fn in_range(s: &[u8], i: usize, low: u8, high: u8) -> bool
@@ -87,11 +88,42 @@ fn char_len(s: &[u8]) -> usize
     0
 }
 
+// Whether the four bytes from an index on are a character each.
+fn four_ascii(s: &[u8], i: usize) -> bool
+    requires { ⌜ i + 4 ≤ length (now s) ⌝ }
+    ensures { λ r. ⌜ r ≡ fourAscii (now (s .entry)) i ⌝ }
+{
+    if 128 <= s[i] {
+        return false;
+    }
+    if 128 <= s[i + 1] {
+        return false;
+    }
+    if 128 <= s[i + 2] {
+        return false;
+    }
+    s[i + 3] < 128
+}
+
+// Valid bytes at the front, four at a time; most texts have no others.
+fn ascii_front(text: &[u8]) -> usize
+    ensures { λ r. ⌜ ValidFront (now (text .entry)) r ⌝ }
+{
+    let mut at = 0;
+    while 4 <= text.len() - at {
+        if !four_ascii(text, at) {
+            return at;
+        }
+        at += 4;
+    }
+    at
+}
+
 // The count of leading valid bytes: the place of refusal 2 where it is below the length.
 pub fn valid_up_to(text: &[u8]) -> usize
     ensures { λ r. ⌜ r ≡ validUpTo (now (text .entry)) ⌝ }
 {
-    let mut at = 0;
+    let mut at = ascii_front(text);
     while at < text.len() {
         let n = char_len(&text[at..]);
         if n == 0 {

@@ -4,6 +4,7 @@ use names::ActionName;
 ghost use mathlib.Core.Path.{_≡_};
 ghost use mathlib.Core.Bool.{true};
 ghost use Prim.Native.Nat.{_+_, _<_, _≤_};
+ghost use lib.Dec.{eqb};
 ghost use lib.ListN.{length};
 ghost use lib.Seq.{slice};
 ghost use Rattle.words.specs.Spellings.{allLetters, spellings, spellingOf};
@@ -181,6 +182,16 @@ fn lower_byte(b: u8) -> u8
     b + 32
 }
 
+// Most words are written as the names are, so equal bytes are asked for first.
+fn same_letter(a: u8, b: u8) -> bool
+    ensures { λ r. ⌜ r ≡ eqb (lower a) (lower b) ⌝ }
+{
+    if a == b {
+        return true;
+    }
+    lower_byte(a) == lower_byte(b)
+}
+
 // Whether two words are the same, case ignored.
 pub fn same_word(w: &[u8], n: &[u8]) -> bool
     ensures { λ r. ⌜ r ≡ sameWord (now (w .entry)) (now (n .entry)) ⌝ }
@@ -190,7 +201,7 @@ pub fn same_word(w: &[u8], n: &[u8]) -> bool
     }
     let mut i = 0;
     while i < w.len() {
-        if lower_byte(w[i]) != lower_byte(n[i]) {
+        if !same_letter(w[i], n[i]) {
             return false;
         }
         i += 1;

@@ -1,6 +1,6 @@
 -- `operands::operand` meets its contract. Assumes nothing.
 use borrow.Author.Needs.{needs}
-use Rattle.operands.proofs.Runs.{operand-ok, operand-bad}
+use Rattle.operands.proofs.Runs.{fits-so, operand-bad}
 use Rattle.operands.proofs.operand.Statement.{statement}
 use Rattle.operands.proofs.operand.Tie as tie
 
@@ -9,8 +9,7 @@ operand-spec =
     tie.close
     (tie.spec
     (λ c κs. search needs)
-    (λ c κs. search needs)
-    (λ c κs. search needs)
+    (λ c κs. search (needs, fits-so))
     (λ c. search needs)
-    (λ c. search operand-ok)
+    (λ c. search needs)
     (λ c. search operand-bad))

@@ -19,28 +19,28 @@ abbrev μ-loop : tie.MeasureT-loop
 
 -- what the character at `at` is
 found : (c : tie.After-char-len Inv-loop μ-loop)
-    → charLen (drop (c .before .before .before .loop .at) (c .before .before .before .before .before .args .text .now)) ≡ c .char-len .result
+    → charLen (drop (c .before .before .before .loop .at) (c .before .before .before .before .before .before .args .text .now)) ≡ c .char-len .result
 found c =
-    let s = c .before .before .before .before .before .args .text .now in
+    let s = c .before .before .before .before .before .before .args .text .now in
     ap charLen (sym (to-the-end s (c .before .before .before .loop .at))) ∙ sym (c .char-len .ensures)
 
 inside : (c : tie.After-char-len Inv-loop μ-loop)
-    → c .before .before .before .loop .at + c .char-len .result ≤ length (c .before .before .before .before .before .args .text .now)
+    → c .before .before .before .loop .at + c .char-len .result ≤ length (c .before .before .before .before .before .before .args .text .now)
 inside c =
-    let s = c .before .before .before .before .before .args .text .now in
+    let s = c .before .before .before .before .before .before .args .text .now in
     let i = c .before .before .before .loop .at in
     omega (arith, found c, char-fits rows (drop i s), length-drop i s)
 
 stops : tie.Need-returns Inv-loop μ-loop
 stops c =
-    laws.stop (c .before .before .before .before .before .before .args .text .now) (c .before .before .before .before .loop .at)
+    laws.stop (c .before .before .before .before .before .before .before .args .text .now) (c .before .before .before .before .loop .at)
     (c .before .before .before .before .loop .inv .1)
     (found (c .before) ∙ c .if1 .taken)
 
 again : tie.Need-loop-again Inv-loop μ-loop
 again c = (
   inside (c .before),
-  laws.on (c .before .before .before .before .before .before .args .text .now) (c .before .before .before .before .loop .at)
+  laws.on (c .before .before .before .before .before .before .before .args .text .now) (c .before .before .before .before .loop .at)
       (c .before .before .before .before .loop .inv .1)
       (c .before .char-len .result)
       (found (c .before))
@@ -48,7 +48,7 @@ again c = (
 )
 
 ends : tie.Need-returns-2 Inv-loop μ-loop
-ends c = laws.end (c .before .before .before .args .text .now) (c .before .loop .at) (c .before .loop .inv .1) (omega arith)
+ends c = laws.end (c .before .before .before .before .args .text .now) (c .before .loop .at) (c .before .loop .inv .1) (omega arith)
 
 pub valid-up-to-spec : {M : Type 1} → statement M
 valid-up-to-spec =
@@ -56,7 +56,8 @@ valid-up-to-spec =
     (tie.spec
     Inv-loop
     μ-loop
-    (λ c. search needs)
+    (λ c κs. search needs)
+    (λ c. (c .ascii-front .ensures .inside, c .ascii-front .ensures .counts))
     (λ c. search needs)
     (λ c. search needs)
     (λ c. search needs)
