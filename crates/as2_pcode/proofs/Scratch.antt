@@ -1,4 +1,4 @@
--- `read_in`: scratch that has a place for each byte has one for each entry. Assumes nothing.
+-- Scratch that has a place for each token has one for each entry. Assumes nothing.
 use mathlib.Core.List.{List}
 use Prim.Native.Nat.{ℕ, _+_, _≤_}
 use native.Mathlib.Omega.{arith}
@@ -10,28 +10,25 @@ use Rattle.as2_pcode.specs.Scratch.{Ready, Roomy}
 
 module _ (text w e tokens : List ℕ) (g : Logged text (length tokens) w e) where
   abbrev n : ℕ
-  n = length text
+  n = length w
 
-  few-events : length e ≤ n
-  few-events = omega (arith, g .events, g .in-text)
-
-  pub arrangeable : (s log acted given owners counts named sorted starts : List ℕ) → Roomy n s log acted given owners counts named sorted starts
+  pub arrangeable : (acted given owners counts named sorted starts : List ℕ) → Roomy n acted given owners counts named sorted starts
       → Arrangeable text w e acted given owners counts named sorted starts
-  arrangeable s log acted given owners counts named sorted starts r =
+  arrangeable acted given owners counts named sorted starts r =
       record {
         tree = g .tree;
         of = g .of;
         log-of = g .log-of;
         rooms = record {
           few = omega (arith, g .events, g .of .few);
-          actions = omega (arith, few-events, r .for-acted);
-          operands = omega (arith, few-events, r .for-given);
-          owners = omega (arith, few-events, r .for-owners);
-          counts = omega (arith, few-events, r .for-counts);
-          labels = omega (arith, few-events, r .for-named);
+          actions = omega (arith, g .events, r .for-acted);
+          operands = omega (arith, g .events, r .for-given);
+          owners = omega (arith, g .events, r .for-owners);
+          counts = omega (arith, g .events, r .for-counts);
+          labels = omega (arith, g .events, r .for-named);
         };
-        sorted-room = omega (arith, few-events, r .for-sorted);
-        starts-room = omega (arith, few-events, r .for-starts);
+        sorted-room = omega (arith, g .events, r .for-sorted);
+        starts-room = omega (arith, g .events, r .for-starts);
       }
 
   pub ready : (acted given owners counts named sums starts : List ℕ) (t : State)
@@ -44,18 +41,16 @@ module _ (text w e tokens : List ℕ) (g : Logged text (length tokens) w e) wher
         log = e;
         told = g;
         arranged = q;
-        sums-room = omega (arith, q .all-levels, f, g .of .small, g .in-text, u);
-        starts-room = omega (arith, q .all-actions, f, g .of .small, g .in-text, v);
+        sums-room = omega (arith, q .all-levels, f, g .of .small, u);
+        starts-room = omega (arith, q .all-actions, f, g .of .small, v);
       }
 
--- nine tables of m places
+-- seven tables of m places
 pub all-roomy : (n m : ℕ) → n + 3 ≤ m
-    → Roomy n (replicate m 0) (replicate m 0) (replicate m 0) (replicate m 0) (replicate m 0) (replicate m 0) (replicate m 0) (replicate m 0) (replicate m 0)
+    → Roomy n (replicate m 0) (replicate m 0) (replicate m 0) (replicate m 0) (replicate m 0) (replicate m 0) (replicate m 0)
 all-roomy n m h =
     let e = length-replicate {A = ℕ} m 0 in
     record {
-      for-tokens = omega (arith, e, h);
-      for-log = omega (arith, e, h);
       for-acted = omega (arith, e, h);
       for-given = omega (arith, e, h);
       for-owners = omega (arith, e, h);

@@ -21,10 +21,8 @@ pub record Ready (text s acted given owners counts named sums starts tokens : Li
   pub sums-room : t .levels ≤ length sums
   pub starts-room : t .actions < length starts
 
--- a place for each byte, one more for the top level, and one more for an end
-pub record Roomy (n : ℕ) (s log acted given owners counts named sorted starts : List ℕ) : Type 0 where
-  pub for-tokens : n + 2 ≤ length s
-  pub for-log : n + 2 ≤ length log
+-- a place for each token, one more for the top level, and one more for an end
+pub record Roomy (n : ℕ) (acted given owners counts named sorted starts : List ℕ) : Type 0 where
   pub for-acted : n + 2 ≤ length acted
   pub for-given : n + 2 ≤ length given
   pub for-owners : n + 2 ≤ length owners

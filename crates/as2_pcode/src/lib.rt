@@ -8,6 +8,7 @@ ghost use mathlib.Core.List.{[], _∷_};
 ghost use Prim.Native.Nat.{_≤_};
 ghost use lib.ListN.{length};
 ghost use Rattle.utf8.specs.Utf8.{validUpTo};
+ghost use Rattle.reading.specs.Told.{Logged};
 ghost use Rattle.as2_pcode.specs.Reading.{Reads, lent};
 ghost use Rattle.as2_pcode.specs.Scratch.{lowestShort, Ready, Roomy};
 
@@ -96,11 +97,11 @@ fn hand_over(
     })
 }
 
-// Reads a text of UTF-8 over scratch that has a place for each byte.
-fn read_in(
+// Arranges the tables of a text's log over scratch, and hands them over.
+fn read_log(
     text: &[u8],
-    s: &mut [u64],
-    log: &mut [u64],
+    s: &[u64],
+    log: &[u64],
     acted: &mut [u64],
     given: &mut [u64],
     owners: &mut [u64],
@@ -114,77 +115,68 @@ fn read_in(
     levels: &mut [u64],
     labels: &mut [u64],
 ) -> Reading
-    requires { ⌜ length (now text) ≤ 65536 ⌝ }
-    requires { ⌜ length (now text) ≤ validUpTo (now text) ⌝ }
-    requires { ⌜ Roomy (length (now text)) (now s) (now log) (now acted) (now given) (now owners) (now counts) (now named) (now sorted) (now starts) ⌝ }
+    requires { ⌜ Logged (now text) (length (now tokens)) (now s) (now log) ⌝ }
+    requires { ⌜ Roomy (length (now s)) (now acted) (now given) (now owners) (now counts) (now named) (now sorted) (now starts) ⌝ }
     ensures { λ r. ⌜ Reads (now (text .entry)) (lent (now (tokens .entry)) (now (actions .entry)) (now (operands .entry)) (now (levels .entry)) (now (labels .entry))) (lent (now (tokens .exit)) (now (actions .exit)) (now (operands .exit)) (now (levels .exit)) (now (labels .exit))) r ⌝ }
 {
-    let room = tokens.len();
-    let parsing = reading::parse_text(text, room, s, log);
-    match parsing {
-        Parsing::Refused(r) => Reading::Refused(r),
-        Parsing::Events(n, e) => {
-            let words = &s[..n];
-            let events = &log[..e];
-            let t = reading::arrange(
-                text,
-                words,
-                events,
-                acted,
-                given,
-                owners,
-                counts,
-                named,
-                sorted,
-                starts,
-            );
-            hand_over(
-                text,
-                words,
-                t,
-                acted,
-                given,
-                owners,
-                counts,
-                named,
-                sorted,
-                starts,
-                tokens,
-                actions,
-                operands,
-                levels,
-                labels,
-            )
-        }
-    }
+    let t = reading::arrange(
+        text,
+        s,
+        log,
+        acted,
+        given,
+        owners,
+        counts,
+        named,
+        sorted,
+        starts,
+    );
+    hand_over(
+        text,
+        s,
+        t,
+        acted,
+        given,
+        owners,
+        counts,
+        named,
+        sorted,
+        starts,
+        tokens,
+        actions,
+        operands,
+        levels,
+        labels,
+    )
 }
 
-// A small text does not pay for the scratch of a large one.
-fn read_small(
+// ---- scratch for the tables, by the number of tokens: a small text does not pay for the scratch of a large one
+
+fn tokens_256(
     text: &[u8],
+    s: &[u64],
+    log: &[u64],
     tokens: &mut [u64],
     actions: &mut [u64],
     operands: &mut [u64],
     levels: &mut [u64],
     labels: &mut [u64],
 ) -> Reading
-    requires { ⌜ length (now text) ≤ 4096 ⌝ }
-    requires { ⌜ length (now text) ≤ validUpTo (now text) ⌝ }
+    requires { ⌜ Logged (now text) (length (now tokens)) (now s) (now log) ⌝ }
+    requires { ⌜ length (now s) ≤ 256 ⌝ }
     ensures { λ r. ⌜ Reads (now (text .entry)) (lent (now (tokens .entry)) (now (actions .entry)) (now (operands .entry)) (now (levels .entry)) (now (labels .entry))) (lent (now (tokens .exit)) (now (actions .exit)) (now (operands .exit)) (now (levels .exit)) (now (labels .exit))) r ⌝ }
 {
-    let mut s = [0u64; 4100];
-    let mut log = [0u64; 4100];
-    let mut acted = [0u64; 4100];
-    let mut given = [0u64; 4100];
-    let mut owners = [0u64; 4100];
-    let mut counts = [0u64; 4100];
-    let mut named = [0u64; 4100];
-    let mut sorted = [0u64; 4100];
-    let mut starts = [0u64; 4100];
-    read_in(
+    let mut acted = [0u64; 260];
+    let mut given = [0u64; 260];
+    let mut owners = [0u64; 260];
+    let mut counts = [0u64; 260];
+    let mut named = [0u64; 260];
+    let mut sorted = [0u64; 260];
+    let mut starts = [0u64; 260];
+    read_log(
         text,
-        &mut s,
-        &mut log,
+        s,
+        log,
         &mut acted,
         &mut given,
         &mut owners,
@@ -200,7 +192,242 @@ fn read_small(
     )
 }
 
-fn read_large(
+fn tokens_2048(
+    text: &[u8],
+    s: &[u64],
+    log: &[u64],
+    tokens: &mut [u64],
+    actions: &mut [u64],
+    operands: &mut [u64],
+    levels: &mut [u64],
+    labels: &mut [u64],
+) -> Reading
+    requires { ⌜ Logged (now text) (length (now tokens)) (now s) (now log) ⌝ }
+    requires { ⌜ length (now s) ≤ 2048 ⌝ }
+    ensures { λ r. ⌜ Reads (now (text .entry)) (lent (now (tokens .entry)) (now (actions .entry)) (now (operands .entry)) (now (levels .entry)) (now (labels .entry))) (lent (now (tokens .exit)) (now (actions .exit)) (now (operands .exit)) (now (levels .exit)) (now (labels .exit))) r ⌝ }
+{
+    let mut acted = [0u64; 2052];
+    let mut given = [0u64; 2052];
+    let mut owners = [0u64; 2052];
+    let mut counts = [0u64; 2052];
+    let mut named = [0u64; 2052];
+    let mut sorted = [0u64; 2052];
+    let mut starts = [0u64; 2052];
+    read_log(
+        text,
+        s,
+        log,
+        &mut acted,
+        &mut given,
+        &mut owners,
+        &mut counts,
+        &mut named,
+        &mut sorted,
+        &mut starts,
+        tokens,
+        actions,
+        operands,
+        levels,
+        labels,
+    )
+}
+
+fn tokens_16384(
+    text: &[u8],
+    s: &[u64],
+    log: &[u64],
+    tokens: &mut [u64],
+    actions: &mut [u64],
+    operands: &mut [u64],
+    levels: &mut [u64],
+    labels: &mut [u64],
+) -> Reading
+    requires { ⌜ Logged (now text) (length (now tokens)) (now s) (now log) ⌝ }
+    requires { ⌜ length (now s) ≤ 16384 ⌝ }
+    ensures { λ r. ⌜ Reads (now (text .entry)) (lent (now (tokens .entry)) (now (actions .entry)) (now (operands .entry)) (now (levels .entry)) (now (labels .entry))) (lent (now (tokens .exit)) (now (actions .exit)) (now (operands .exit)) (now (levels .exit)) (now (labels .exit))) r ⌝ }
+{
+    let mut acted = [0u64; 16388];
+    let mut given = [0u64; 16388];
+    let mut owners = [0u64; 16388];
+    let mut counts = [0u64; 16388];
+    let mut named = [0u64; 16388];
+    let mut sorted = [0u64; 16388];
+    let mut starts = [0u64; 16388];
+    read_log(
+        text,
+        s,
+        log,
+        &mut acted,
+        &mut given,
+        &mut owners,
+        &mut counts,
+        &mut named,
+        &mut sorted,
+        &mut starts,
+        tokens,
+        actions,
+        operands,
+        levels,
+        labels,
+    )
+}
+
+fn tokens_65536(
+    text: &[u8],
+    s: &[u64],
+    log: &[u64],
+    tokens: &mut [u64],
+    actions: &mut [u64],
+    operands: &mut [u64],
+    levels: &mut [u64],
+    labels: &mut [u64],
+) -> Reading
+    requires { ⌜ Logged (now text) (length (now tokens)) (now s) (now log) ⌝ }
+    ensures { λ r. ⌜ Reads (now (text .entry)) (lent (now (tokens .entry)) (now (actions .entry)) (now (operands .entry)) (now (levels .entry)) (now (labels .entry))) (lent (now (tokens .exit)) (now (actions .exit)) (now (operands .exit)) (now (levels .exit)) (now (labels .exit))) r ⌝ }
+{
+    let mut acted = [0u64; 65540];
+    let mut given = [0u64; 65540];
+    let mut owners = [0u64; 65540];
+    let mut counts = [0u64; 65540];
+    let mut named = [0u64; 65540];
+    let mut sorted = [0u64; 65540];
+    let mut starts = [0u64; 65540];
+    read_log(
+        text,
+        s,
+        log,
+        &mut acted,
+        &mut given,
+        &mut owners,
+        &mut counts,
+        &mut named,
+        &mut sorted,
+        &mut starts,
+        tokens,
+        actions,
+        operands,
+        levels,
+        labels,
+    )
+}
+
+fn read_sized(
+    text: &[u8],
+    s: &[u64],
+    log: &[u64],
+    tokens: &mut [u64],
+    actions: &mut [u64],
+    operands: &mut [u64],
+    levels: &mut [u64],
+    labels: &mut [u64],
+) -> Reading
+    requires { ⌜ Logged (now text) (length (now tokens)) (now s) (now log) ⌝ }
+    ensures { λ r. ⌜ Reads (now (text .entry)) (lent (now (tokens .entry)) (now (actions .entry)) (now (operands .entry)) (now (levels .entry)) (now (labels .entry))) (lent (now (tokens .exit)) (now (actions .exit)) (now (operands .exit)) (now (levels .exit)) (now (labels .exit))) r ⌝ }
+{
+    if s.len() <= 256 {
+        return tokens_256(text, s, log, tokens, actions, operands, levels, labels);
+    }
+    if s.len() <= 2048 {
+        return tokens_2048(text, s, log, tokens, actions, operands, levels, labels);
+    }
+    if s.len() <= 16384 {
+        return tokens_16384(text, s, log, tokens, actions, operands, levels, labels);
+    }
+    tokens_65536(text, s, log, tokens, actions, operands, levels, labels)
+}
+
+// Reads a text of UTF-8 over scratch that has a place for each byte, for its tokens and for its log.
+fn read_in(
+    text: &[u8],
+    s: &mut [u64],
+    log: &mut [u64],
+    tokens: &mut [u64],
+    actions: &mut [u64],
+    operands: &mut [u64],
+    levels: &mut [u64],
+    labels: &mut [u64],
+) -> Reading
+    requires { ⌜ length (now text) ≤ 65536 ⌝ }
+    requires { ⌜ length (now text) ≤ validUpTo (now text) ⌝ }
+    requires { ⌜ (length (now text) ≤ length (now s)) × (length (now text) ≤ length (now log)) ⌝ }
+    ensures { λ r. ⌜ Reads (now (text .entry)) (lent (now (tokens .entry)) (now (actions .entry)) (now (operands .entry)) (now (levels .entry)) (now (labels .entry))) (lent (now (tokens .exit)) (now (actions .exit)) (now (operands .exit)) (now (levels .exit)) (now (labels .exit))) r ⌝ }
+{
+    let room = tokens.len();
+    let parsing = reading::parse_text(text, room, s, log);
+    match parsing {
+        Parsing::Refused(r) => Reading::Refused(r),
+        Parsing::Events(n, e) => {
+            let words = &s[..n];
+            let events = &log[..e];
+            read_sized(
+                text,
+                words,
+                events,
+                tokens,
+                actions,
+                operands,
+                levels,
+                labels,
+            )
+        }
+    }
+}
+
+// ---- scratch for the tokens and the log, by the length of the text
+
+fn text_1024(
+    text: &[u8],
+    tokens: &mut [u64],
+    actions: &mut [u64],
+    operands: &mut [u64],
+    levels: &mut [u64],
+    labels: &mut [u64],
+) -> Reading
+    requires { ⌜ length (now text) ≤ 1024 ⌝ }
+    requires { ⌜ length (now text) ≤ validUpTo (now text) ⌝ }
+    ensures { λ r. ⌜ Reads (now (text .entry)) (lent (now (tokens .entry)) (now (actions .entry)) (now (operands .entry)) (now (levels .entry)) (now (labels .entry))) (lent (now (tokens .exit)) (now (actions .exit)) (now (operands .exit)) (now (levels .exit)) (now (labels .exit))) r ⌝ }
+{
+    let mut s = [0u64; 1024];
+    let mut log = [0u64; 1024];
+    read_in(
+        text,
+        &mut s,
+        &mut log,
+        tokens,
+        actions,
+        operands,
+        levels,
+        labels,
+    )
+}
+
+fn text_8192(
+    text: &[u8],
+    tokens: &mut [u64],
+    actions: &mut [u64],
+    operands: &mut [u64],
+    levels: &mut [u64],
+    labels: &mut [u64],
+) -> Reading
+    requires { ⌜ length (now text) ≤ 8192 ⌝ }
+    requires { ⌜ length (now text) ≤ validUpTo (now text) ⌝ }
+    ensures { λ r. ⌜ Reads (now (text .entry)) (lent (now (tokens .entry)) (now (actions .entry)) (now (operands .entry)) (now (levels .entry)) (now (labels .entry))) (lent (now (tokens .exit)) (now (actions .exit)) (now (operands .exit)) (now (levels .exit)) (now (labels .exit))) r ⌝ }
+{
+    let mut s = [0u64; 8192];
+    let mut log = [0u64; 8192];
+    read_in(
+        text,
+        &mut s,
+        &mut log,
+        tokens,
+        actions,
+        operands,
+        levels,
+        labels,
+    )
+}
+
+fn text_65536(
     text: &[u8],
     tokens: &mut [u64],
     actions: &mut [u64],
@@ -212,26 +439,12 @@ fn read_large(
     requires { ⌜ length (now text) ≤ validUpTo (now text) ⌝ }
     ensures { λ r. ⌜ Reads (now (text .entry)) (lent (now (tokens .entry)) (now (actions .entry)) (now (operands .entry)) (now (levels .entry)) (now (labels .entry))) (lent (now (tokens .exit)) (now (actions .exit)) (now (operands .exit)) (now (levels .exit)) (now (labels .exit))) r ⌝ }
 {
-    let mut s = [0u64; 65540];
-    let mut log = [0u64; 65540];
-    let mut acted = [0u64; 65540];
-    let mut given = [0u64; 65540];
-    let mut owners = [0u64; 65540];
-    let mut counts = [0u64; 65540];
-    let mut named = [0u64; 65540];
-    let mut sorted = [0u64; 65540];
-    let mut starts = [0u64; 65540];
+    let mut s = [0u64; 65536];
+    let mut log = [0u64; 65536];
     read_in(
         text,
         &mut s,
         &mut log,
-        &mut acted,
-        &mut given,
-        &mut owners,
-        &mut counts,
-        &mut named,
-        &mut sorted,
-        &mut starts,
         tokens,
         actions,
         operands,
@@ -258,8 +471,11 @@ pub fn read(
     if valid < text.len() {
         return Reading::Refused(Refusal::NotUtf8(valid));
     }
-    if text.len() <= 4096 {
-        return read_small(text, tokens, actions, operands, levels, labels);
+    if text.len() <= 1024 {
+        return text_1024(text, tokens, actions, operands, levels, labels);
     }
-    read_large(text, tokens, actions, operands, levels, labels)
+    if text.len() <= 8192 {
+        return text_8192(text, tokens, actions, operands, levels, labels);
+    }
+    text_65536(text, tokens, actions, operands, levels, labels)
 }

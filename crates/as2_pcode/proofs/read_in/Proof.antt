@@ -1,38 +1,28 @@
 -- `as2_pcode::read_in` meets its contract. Assumes nothing.
 use borrow.Author.Needs.{needs}
-use mathlib.Core.Path.{refl, sym, subst, _∙_}
-use native.Mathlib.Omega.{arith}
+use mathlib.Core.Path.{refl, sym, subst}
 use lib.ListN.{length, take}
 use lib.Seq.{length-take-le}
 use Rattle.reading.specs.declared.Parsing.{Parsing}
 use Rattle.reading.specs.declared.Parsing.the-variants as P
 use Rattle.reading.specs.Told.{Parses, Logged}
 use Rattle.as2_pcode.specs.Reading.{Reads}
-use Rattle.as2_pcode.proofs.Scratch as laws
 use Rattle.as2_pcode.proofs.read_in.Statement.{statement}
 use Rattle.as2_pcode.proofs.read_in.Tie as tie
 
 -- the tokens and the log of a text that has a reading
 told : (c : tie.After-known-told2)
-    → Parses (c .before .before .before .before .before .before .before .before .before .before .before .before .before .before .before .before .before .before .before .before .before .before .before .before .before .args .text .now) (length (c .before .before .before .before .before .before .before .before .before .before .before .before .before .before .before .before .before .before .before .before .before .before .before .before .before .args .tokens .now)) (c .before .before .before .before .before .before .before .parse-text .last .1 .1 .0) (c .before .before .before .before .before .before .before .parse-text .last .1 .1 .1 .0)
+    → Parses (c .before .before .before .before .before .before .before .before .before .before .before .before .before .before .before .before .before .before .args .text .now) (length (c .before .before .before .before .before .before .before .before .before .before .before .before .before .before .before .before .before .before .args .tokens .now)) (c .before .before .before .before .before .before .before .parse-text .last .1 .1 .0) (c .before .before .before .before .before .before .before .parse-text .last .1 .1 .1 .0)
     (P.Events (c .before .parsing2 .given .0 .0) (c .before .parsing2 .given .0 .1 .0))
 told c =
-    subst (λ (q : Parsing). Parses (c .before .before .before .before .before .before .before .before .before .before .before .before .before .before .before .before .before .before .before .before .before .before .before .before .before .args .text .now) (length (c .before .before .before .before .before .before .before .before .before .before .before .before .before .before .before .before .before .before .before .before .before .before .before .before .before .args .tokens .now)) (c .before .before .before .before .before .before .before .parse-text .last .1 .1 .0) (c .before .before .before .before .before .before .before .parse-text .last .1 .1 .1 .0) q)
+    subst (λ (q : Parsing). Parses (c .before .before .before .before .before .before .before .before .before .before .before .before .before .before .before .before .before .before .args .text .now) (length (c .before .before .before .before .before .before .before .before .before .before .before .before .before .before .before .before .before .before .args .tokens .now)) (c .before .before .before .before .before .before .before .parse-text .last .1 .1 .0) (c .before .before .before .before .before .before .before .parse-text .last .1 .1 .1 .0) q)
     (c .before .parsing2 .given .1) (c .before .before .before .before .before .before .before .parse-text .ensures)
 
 logged : (c : tie.After-known-told2)
-    → Logged (c .before .before .before .before .before .before .before .before .before .before .before .before .before .before .before .before .before .before .before .before .before .before .before .before .before .args .text .now) (length (c .before .before .before .before .before .before .before .before .before .before .before .before .before .before .before .before .before .before .before .before .before .before .before .before .before .args .tokens .now)) (take (c .before .parsing2 .given .0 .0) (c .before .before .before .before .before .before .before .parse-text .last .1 .1 .0))
+    → Logged (c .before .before .before .before .before .before .before .before .before .before .before .before .before .before .before .before .before .before .args .text .now) (length (c .before .before .before .before .before .before .before .before .before .before .before .before .before .before .before .before .before .before .args .tokens .now)) (take (c .before .parsing2 .given .0 .0) (c .before .before .before .before .before .before .before .parse-text .last .1 .1 .0))
     (take (c .before .parsing2 .given .0 .1 .0) (c .before .before .before .before .before .before .before .parse-text .last .1 .1 .1 .0))
 unfolding Parses
 logged c = told c .0
-
-refused : tie.Need-returns
-unfolding Parses Reads
-refused c = (
-  subst (λ (q : Parsing). Parses (c .before .before .before .before .before .before .before .before .before .before .before .before .before .before .before .before .before .before .before .before .before .before .before .before .before .args .text .now) (length (c .before .before .before .before .before .before .before .before .before .before .before .before .before .before .before .before .before .before .before .before .before .before .before .before .before .args .tokens .now)) (c .before .before .before .before .before .before .before .parse-text .last .1 .1 .0) (c .before .before .before .before .before .before .before .parse-text .last .1 .1 .1 .0) q)
-      (c .before .parsing .given .1) (c .before .before .before .before .before .before .before .parse-text .ensures) _,
-  refl,
-)
 
 words : tie.Need-slice-reshare-prefix-words
 unfolding Parses
@@ -50,15 +40,15 @@ events-long : tie.Need-slice-aggregate-events
 unfolding Parses
 events-long c = sym (length-take-le _ _ (told (c .before .before) .1 .1))
 
-arranging : tie.Need-arrange-requires
-arranging c κs = laws.arrangeable _ _ _ (c .before .before .before .before .before .before .before .before .before .before .before .before .before .before .before .before .before .before .before .before .before .before .before .before .before .before .before .before .before .before .before .before .before .before .args .tokens .now) (logged (c .before .before .before .before .before .before .before .before .before)) _ _ _ _ _ _ _ _ _ (c .before .before .before .before .before .before .before .before .before .before .before .before .before .before .before .before .before .before .before .before .before .before .before .before .before .before .before .before .before .before .before .before .before .before .pre .1 .1)
+sized : tie.Need-read-sized-requires
+sized c κs = logged (c .before .before .before .before .before .before .before)
 
-ready : tie.Need-hand-over-requires
-ready c κs =
-    let r = c .before .before .before .before .before .before .before .before .before .before .before .before .before .before .before .before .before .before .before .before .before .before .before .before .before .before .before .before .before .before .before .before .before .before .before .before .before .before .before .before .before .before .before .before .before .before .before .before .before .before .before .before .before .before .before .before .before .before .before .before .before .pre .1 .1 in
-    let a = c .before .before .before .before .before .before .before .before .before .before .before .before .before .before .before .before .before .before .before .before .before .before .before .before .before .before .arrange in
-    laws.ready _ _ _ (c .before .before .before .before .before .before .before .before .before .before .before .before .before .before .before .before .before .before .before .before .before .before .before .before .before .before .before .before .before .before .before .before .before .before .before .before .before .before .before .before .before .before .before .before .before .before .before .before .before .before .before .before .before .before .before .before .before .before .before .before .before .args .tokens .now) (logged (c .before .before .before .before .before .before .before .before .before .before .before .before .before .before .before .before .before .before .before .before .before .before .before .before .before .before .before .before .before .before .before .before .before .before .before .before)) _ _ _ _ _ _ _ _ (a .ensures)
-    (omega (arith, r .for-sorted, a .kept .1 .1 .1 .1 .1 .1 .1 .1 .0)) (omega (arith, r .for-starts, a .kept .1 .1 .1 .1 .1 .1 .1 .1 .1 .0))
+refused : tie.Need-returns
+unfolding Parses Reads
+refused c = (
+  subst (λ (q : Parsing). Parses (c .before .before .before .before .before .before .before .before .before .before .before .before .before .before .before .before .before .before .args .text .now) (length (c .before .before .before .before .before .before .before .before .before .before .before .before .before .before .before .before .before .before .args .tokens .now)) (c .before .before .before .before .before .before .before .parse-text .last .1 .1 .0) (c .before .before .before .before .before .before .before .parse-text .last .1 .1 .1 .0) q) (c .before .parsing .given .1) (c .before .before .before .before .before .before .before .parse-text .ensures) _,
+  refl,
+)
 
 pub read-in-spec : {M : Type 1} → statement M
 read-in-spec =
@@ -71,20 +61,12 @@ read-in-spec =
     words-long
     events
     events-long
-    arranging
-    ready
+    sized
     (λ c. search needs)
     (λ c. search needs)
     refused
-    (λ c. c .before .before .before .before .before .before .before .before .before .before .before .before .before .before .before .before .before .before .before .before .before .before .before .before .before .before .before .before .before .before .before .before .before .before .before .before .before .before .before .before .before .before .before .before .before .before .before .before .before .before .before .before .before .before .before .before .before .before .parse-text .kept .1 .1 .0)
-    (λ c. c .before .before .before .before .before .before .before .before .before .before .before .before .before .before .before .before .before .before .before .before .before .before .before .before .before .before .before .before .before .before .before .before .before .before .before .before .before .before .before .before .before .before .before .before .before .before .before .before .before .before .before .before .before .before .before .before .before .before .parse-text .kept .1 .1 .1 .0)
-    (λ c. c .before .before .before .before .before .before .before .before .before .before .before .before .before .before .before .before .before .before .before .before .before .before .before .before .before .before .before .before .before .before .before .before .before .before .before .before .before .before .before .before .before .arrange .kept .1 .1 .1 .0)
-    (λ c. c .before .before .before .before .before .before .before .before .before .before .before .before .before .before .before .before .before .before .before .before .before .before .before .before .before .before .before .before .before .before .before .before .before .before .before .before .before .before .before .before .before .arrange .kept .1 .1 .1 .1 .0)
-    (λ c. c .before .before .before .before .before .before .before .before .before .before .before .before .before .before .before .before .before .before .before .before .before .before .before .before .before .before .before .before .before .before .before .before .before .before .before .before .before .before .before .before .before .arrange .kept .1 .1 .1 .1 .1 .0)
     (λ c. search needs)
     (λ c. search needs)
-    (λ c. c .before .before .before .before .before .before .before .before .before .before .before .before .before .before .hand-over .kept .1 .1 .1 .1 .1 .1 .1 .1 .0 ∙ c .before .before .before .before .before .before .before .before .before .before .before .before .before .before .before .before .before .before .before .before .before .before .before .before .before .before .before .before .before .before .before .before .before .before .before .before .before .before .before .before .before .arrange .kept .1 .1 .1 .1 .1 .1 .1 .1 .0)
-    (λ c. c .before .before .before .before .before .before .before .before .before .before .before .before .before .before .hand-over .kept .1 .1 .1 .1 .1 .1 .1 .1 .1 .0 ∙ c .before .before .before .before .before .before .before .before .before .before .before .before .before .before .before .before .before .before .before .before .before .before .before .before .before .before .before .before .before .before .before .before .before .before .before .before .before .before .before .before .before .arrange .kept .1 .1 .1 .1 .1 .1 .1 .1 .1 .0)
     (λ c. search needs)
     (λ c. search needs)
     (λ c. search needs)
