@@ -311,7 +311,32 @@ fn tokens_65536(
     )
 }
 
-fn read_sized(
+// The tables of a text of up to 8,192 bytes.
+fn short_tables(
+    text: &[u8],
+    s: &[u64],
+    log: &[u64],
+    tokens: &mut [u64],
+    actions: &mut [u64],
+    operands: &mut [u64],
+    levels: &mut [u64],
+    labels: &mut [u64],
+) -> Reading
+    requires { ⌜ Logged (now text) (length (now tokens)) (now s) (now log) ⌝ }
+    requires { ⌜ length (now s) ≤ 8192 ⌝ }
+    ensures { λ r. ⌜ Reads (now (text .entry)) (lent (now (tokens .entry)) (now (actions .entry)) (now (operands .entry)) (now (levels .entry)) (now (labels .entry))) (lent (now (tokens .exit)) (now (actions .exit)) (now (operands .exit)) (now (levels .exit)) (now (labels .exit))) r ⌝ }
+{
+    if s.len() <= 256 {
+        return tokens_256(text, s, log, tokens, actions, operands, levels, labels);
+    }
+    if s.len() <= 2048 {
+        return tokens_2048(text, s, log, tokens, actions, operands, levels, labels);
+    }
+    tokens_16384(text, s, log, tokens, actions, operands, levels, labels)
+}
+
+// The tables of a longer one. They are apart so that the frame of a short text has no scratch of a long one in it.
+fn long_tables(
     text: &[u8],
     s: &[u64],
     log: &[u64],
@@ -324,12 +349,6 @@ fn read_sized(
     requires { ⌜ Logged (now text) (length (now tokens)) (now s) (now log) ⌝ }
     ensures { λ r. ⌜ Reads (now (text .entry)) (lent (now (tokens .entry)) (now (actions .entry)) (now (operands .entry)) (now (levels .entry)) (now (labels .entry))) (lent (now (tokens .exit)) (now (actions .exit)) (now (operands .exit)) (now (levels .exit)) (now (labels .exit))) r ⌝ }
 {
-    if s.len() <= 256 {
-        return tokens_256(text, s, log, tokens, actions, operands, levels, labels);
-    }
-    if s.len() <= 2048 {
-        return tokens_2048(text, s, log, tokens, actions, operands, levels, labels);
-    }
     if s.len() <= 16384 {
         return tokens_16384(text, s, log, tokens, actions, operands, levels, labels);
     }
@@ -337,7 +356,43 @@ fn read_sized(
 }
 
 // Reads a text of UTF-8 over scratch that has a place for each byte, for its tokens and for its log.
-fn read_in(
+fn read_short(
+    text: &[u8],
+    s: &mut [u64],
+    log: &mut [u64],
+    tokens: &mut [u64],
+    actions: &mut [u64],
+    operands: &mut [u64],
+    levels: &mut [u64],
+    labels: &mut [u64],
+) -> Reading
+    requires { ⌜ length (now text) ≤ 8192 ⌝ }
+    requires { ⌜ length (now text) ≤ validUpTo (now text) ⌝ }
+    requires { ⌜ (length (now text) ≤ length (now s)) × (length (now text) ≤ length (now log)) ⌝ }
+    ensures { λ r. ⌜ Reads (now (text .entry)) (lent (now (tokens .entry)) (now (actions .entry)) (now (operands .entry)) (now (levels .entry)) (now (labels .entry))) (lent (now (tokens .exit)) (now (actions .exit)) (now (operands .exit)) (now (levels .exit)) (now (labels .exit))) r ⌝ }
+{
+    let room = tokens.len();
+    let parsing = reading::parse_text(text, room, s, log);
+    match parsing {
+        Parsing::Refused(r) => Reading::Refused(r),
+        Parsing::Events(n, e) => {
+            let words = &s[..n];
+            let events = &log[..e];
+            short_tables(
+                text,
+                words,
+                events,
+                tokens,
+                actions,
+                operands,
+                levels,
+                labels,
+            )
+        }
+    }
+}
+
+fn read_long(
     text: &[u8],
     s: &mut [u64],
     log: &mut [u64],
@@ -359,7 +414,7 @@ fn read_in(
         Parsing::Events(n, e) => {
             let words = &s[..n];
             let events = &log[..e];
-            read_sized(
+            long_tables(
                 text,
                 words,
                 events,
@@ -389,7 +444,7 @@ fn text_1024(
 {
     let mut s = [0u64; 1024];
     let mut log = [0u64; 1024];
-    read_in(
+    read_short(
         text,
         &mut s,
         &mut log,
@@ -415,7 +470,33 @@ fn text_8192(
 {
     let mut s = [0u64; 8192];
     let mut log = [0u64; 8192];
-    read_in(
+    read_short(
+        text,
+        &mut s,
+        &mut log,
+        tokens,
+        actions,
+        operands,
+        levels,
+        labels,
+    )
+}
+
+fn text_32768(
+    text: &[u8],
+    tokens: &mut [u64],
+    actions: &mut [u64],
+    operands: &mut [u64],
+    levels: &mut [u64],
+    labels: &mut [u64],
+) -> Reading
+    requires { ⌜ length (now text) ≤ 32768 ⌝ }
+    requires { ⌜ length (now text) ≤ validUpTo (now text) ⌝ }
+    ensures { λ r. ⌜ Reads (now (text .entry)) (lent (now (tokens .entry)) (now (actions .entry)) (now (operands .entry)) (now (levels .entry)) (now (labels .entry))) (lent (now (tokens .exit)) (now (actions .exit)) (now (operands .exit)) (now (levels .exit)) (now (labels .exit))) r ⌝ }
+{
+    let mut s = [0u64; 32768];
+    let mut log = [0u64; 32768];
+    read_long(
         text,
         &mut s,
         &mut log,
@@ -441,7 +522,7 @@ fn text_65536(
 {
     let mut s = [0u64; 65536];
     let mut log = [0u64; 65536];
-    read_in(
+    read_long(
         text,
         &mut s,
         &mut log,
@@ -476,6 +557,9 @@ pub fn read(
     }
     if text.len() <= 8192 {
         return text_8192(text, tokens, actions, operands, levels, labels);
+    }
+    if text.len() <= 32768 {
+        return text_32768(text, tokens, actions, operands, levels, labels);
     }
     text_65536(text, tokens, actions, operands, levels, labels)
 }
