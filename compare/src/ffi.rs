@@ -127,23 +127,3 @@ pub fn label(word: u64) -> (usize, usize, usize) {
     unsafe { c::pcode_label(word, out.as_mut_ptr()) };
     (out[0] as usize, out[1] as usize, out[2] as usize)
 }
-
-/// Lexing alone into a table that the caller lends: best and median of five rounds, as the oracle's --bench prints its own.
-pub fn bench(text: &[u8], seconds: f64) {
-    let mut table = vec![0u64; text.len()];
-    let mut rounds = Vec::new();
-    for _ in 0..6 {
-        let start = std::time::Instant::now();
-        let mut runs = 0u64;
-        while start.elapsed().as_secs_f64() < seconds / 6.0 {
-            for _ in 0..16 {
-                std::hint::black_box(lex(std::hint::black_box(text), &mut table)).expect("the text is accepted");
-            }
-            runs += 16;
-        }
-        rounds.push(text.len() as f64 * runs as f64 / start.elapsed().as_secs_f64() / 1e6);
-    }
-    let mut timed = rounds.split_off(1);
-    timed.sort_by(f64::total_cmp);
-    println!("lexing {} bytes: {:.1} MB/s best, {:.1} median", text.len(), timed[4], timed[2]);
-}

@@ -14,8 +14,10 @@
 //!   compare ORACLE sample FILE COUNT SEED         the oracle's answers in FILE1, FILE2, .. of 65,536 bytes, for crates/lex_replay
 //!   compare ORACLE sample-reading FILE COUNT SEED  the same for reading, for crates/read_replay, and what that program is to print
 //!   compare ordinary FILE SIZE SEED               an ordinary patch of about that many bytes
-//!   compare bench FILE SECONDS                    lexing speed on one text
+//!   compare lexing FILE SECONDS                   lexing speed on one text
+//!   compare ORACLE bench SECONDS                  speed of both sides on ordinary patches and on labels; see compare/bench
 
+mod bench;
 mod ffi;
 mod listing;
 mod oracle;
@@ -289,8 +291,8 @@ fn main() {
     let args: Vec<String> = std::env::args().skip(1).collect();
     let words: Vec<&str> = args.iter().map(String::as_str).collect();
     let differences = match words[..] {
-        ["bench", file, seconds] => {
-            ffi::bench(&std::fs::read(file).expect("the text"), seconds.parse().expect("seconds"));
+        ["lexing", file, seconds] => {
+            bench::lex(&std::fs::read(file).expect("the text"), seconds.parse().expect("seconds"));
             0
         }
         ["ordinary", file, size, seed] => {
@@ -309,6 +311,7 @@ fn main() {
             }
             d
         }
+        [oracle, "bench", seconds] => bench::bench(oracle, seconds.parse().expect("seconds")),
         [oracle, "deltas"] => deltas(oracle),
         [oracle, "values", length, count, seed] => {
             values::numbers(oracle, length.parse().expect("a length"), count.parse().expect("a count"), seed.parse().expect("a seed"))

@@ -1,0 +1,202 @@
+//! Speed: reading and lexing here and by the oracle, by turns, on ordinary patches and on texts that are all labels.
+
+use std::hint::black_box;
+use std::process::Command;
+use std::time::Instant;
+
+use crate::{ffi, texts};
+
+const ROUNDS: usize = 5;
+const SIZE: usize = 65_536;
+/// What a byte of a text of labels may take, in times of what a byte of an ordinary patch takes.
+const LIMIT: f64 = 3.0;
+
+/// MB/s: the best and the median of some timings.
+#[derive(Clone, Copy)]
+struct Speed {
+    best: f64,
+    median: f64,
+}
+
+impl Speed {
+    /// Of several: the best of the bests, the median of the medians.
+    fn of(all: &[Speed]) -> Speed {
+        let sorted = |part: fn(&Speed) -> f64| {
+            let mut numbers: Vec<f64> = all.iter().map(part).collect();
+            numbers.sort_by(f64::total_cmp);
+            numbers
+        };
+        Speed { best: sorted(|s| s.best)[all.len() - 1], median: sorted(|s| s.median)[all.len() / 2] }
+    }
+
+    fn ns_per_byte(self) -> f64 {
+        1e3 / self.best
+    }
+}
+
+/// A call on a text of that many bytes, timed as the oracle's --bench times its own: 0.2 s to warm up, then five timings.
+fn time(bytes: usize, seconds: f64, mut call: impl FnMut()) -> Speed {
+    let (start, mut calls) = (Instant::now(), 0u64);
+    while calls == 0 || start.elapsed().as_secs_f64() < 0.2 {
+        call();
+        calls += 1;
+    }
+    let calls = (calls as f64 / start.elapsed().as_secs_f64() * seconds / 5.0).max(1.0) as u64;
+    let timings: Vec<Speed> = (0..5)
+        .map(|_| {
+            let start = Instant::now();
+            (0..calls).for_each(|_| call());
+            let speed = bytes as f64 * calls as f64 / start.elapsed().as_secs_f64() / 1e6;
+            Speed { best: speed, median: speed }
+        })
+        .collect();
+    Speed::of(&timings)
+}
+
+/// A text, tables that hold any reading of it, and what was measured so far.
+struct Subject {
+    what: &'static str,
+    text: Vec<u8>,
+    tables: [Vec<u64>; 5],
+    counts: [u64; 5],
+    reading: Sides,
+    lexing: Sides,
+}
+
+#[derive(Default)]
+struct Sides {
+    ours: Vec<Speed>,
+    theirs: Vec<Speed>,
+}
+
+impl Subject {
+    fn new(what: &'static str, text: Vec<u8>) -> Self {
+        let tables = [(); 5].map(|_| vec![0; text.len() + 1]);
+        Subject { what, text, tables, counts: [0; 5], reading: Sides::default(), lexing: Sides::default() }
+    }
+
+    fn ours(&mut self, seconds: f64) {
+        let Subject { text, tables, counts, .. } = self;
+        self.reading.ours.push(time(text.len(), seconds, || {
+            let lent = tables.each_mut().map(|t| &mut t[..]);
+            assert_eq!(ffi::read(black_box(text), lent, counts), 0, "the text is read");
+        }));
+        self.lexing.ours.push(lexing(text, &mut tables[0], seconds));
+    }
+
+    /// The oracle's own timings. It must read the text too, with as many tokens.
+    fn theirs(&mut self, oracle: &str, seconds: f64) {
+        let file = "target/bench-text";
+        std::fs::write(file, &self.text).expect("the file");
+        let out = Command::new(oracle).args(["--bench", file, &seconds.to_string()]).output().expect("the oracle runs").stdout;
+        let out = String::from_utf8(out).unwrap();
+        assert!(out.contains("accepted true\n"), "the oracle reads the text");
+        assert!(out.starts_with(&format!("bytes {} tokens {}\n", self.text.len(), self.counts[0])), "it finds the same tokens");
+        self.reading.theirs.push(told(&out, "lex+parse (PCode) "));
+        self.lexing.theirs.push(told(&out, "lex (Lexer::into_vec) "));
+    }
+}
+
+fn lexing(text: &[u8], table: &mut [u64], seconds: f64) -> Speed {
+    time(text.len(), seconds, || {
+        ffi::lex(black_box(text), table).expect("the text is lexed");
+    })
+}
+
+/// A line of the oracle's --bench: `WHAT  84.1 MB/s best  69.9 median ..`.
+fn told(out: &str, what: &str) -> Speed {
+    let line = out.lines().find(|l| l.starts_with(what)).expect("the oracle times it");
+    let before = |word: &str| line[..line.find(word).unwrap()].split_whitespace().last().unwrap().parse().unwrap();
+    Speed { best: before("MB/s"), median: before("median") }
+}
+
+/// Labels and nothing else, as many as fit, then line feeds up to the size.
+fn labels(names: impl Iterator<Item = String>) -> Vec<u8> {
+    let mut text = String::new();
+    for name in names {
+        if text.len() + name.len() + 1 > SIZE {
+            break;
+        }
+        text.push_str(&name);
+        text.push(':');
+    }
+    text.push_str(&"\n".repeat(SIZE - text.len()));
+    text.into_bytes()
+}
+
+/// Identifiers, the shortest first. An action's name is none; the other words of document 01 are longer.
+fn short_names() -> impl Iterator<Item = String> {
+    let bytes = b"abcdefghijklmnopqrstuvwxyzABCDEFGHIJKLMNOPQRSTUVWXYZ_$0123456789";
+    let all = (0..3).flat_map(move |more| {
+        (0..54 * 64usize.pow(more)).map(move |n| (0..=more).rev().map(|i| bytes[n / 64usize.pow(i) % 64] as char).collect::<String>())
+    });
+    all.filter(|name| !texts::ACTIONS.iter().any(|a| a.eq_ignore_ascii_case(name)))
+}
+
+fn subjects() -> Vec<Subject> {
+    let same = |name: &'static str| labels(std::iter::repeat(name.to_string()));
+    vec![
+        Subject::new("ordinary patch, 1 KB", texts::ordinary(1024, 1)),
+        Subject::new("ordinary patch, 4 KB", texts::ordinary(4096, 1)),
+        Subject::new(ORDINARY, texts::ordinary(SIZE, 1)),
+        Subject::new("labels, all distinct", labels((0..).map(|i| format!("loc{i:04x}")))),
+        Subject::new("labels, all the same", same("loc3f2a")),
+        Subject::new("labels, 28 bytes in common", labels((0..).map(|i| format!("row_turns_green_at_the_door_{i:03x}")))),
+        Subject::new("labels, `a:` again and again", same("a")),
+        Subject::new("labels, distinct and shortest", labels(short_names())),
+    ]
+}
+
+const ORDINARY: &str = "ordinary patch, 64 KB";
+
+/// A row for each text. The last column is given where the text is all labels.
+fn print(what: &str, all: &[Subject], sides: fn(&Subject) -> &Sides) -> f64 {
+    let ordinary = Speed::of(&sides(all.iter().find(|s| s.what == ORDINARY).unwrap()).ours).ns_per_byte();
+    let mut most = 0f64;
+    println!("{what}, MB/s:\n");
+    println!("| text                          |  bytes | tokens | labels |   here | median | the Rust | median | ratio | of medians | ns/byte | to ordinary |");
+    println!("|-------------------------------|-------:|-------:|-------:|-------:|-------:|---------:|-------:|------:|-----------:|--------:|------------:|");
+    for s in all {
+        let (ours, theirs) = (Speed::of(&sides(s).ours), Speed::of(&sides(s).theirs));
+        let times = ours.ns_per_byte() / ordinary;
+        let told = if s.what.starts_with("labels") { format!("{times:.2}") } else { String::new() };
+        if !told.is_empty() {
+            most = most.max(times);
+        }
+        println!(
+            "| {:<29} | {:>6} | {:>6} | {:>6} | {:>6.1} | {:>6.1} | {:>8.1} | {:>6.1} | {:>5.2} | {:>10.2} | {:>7.1} | {told:>11} |",
+            s.what, s.text.len(), s.counts[0], s.counts[4], ours.best, ours.median, theirs.best, theirs.median,
+            ours.best / theirs.best, ours.median / theirs.median, ours.ns_per_byte(),
+        );
+    }
+    println!();
+    most
+}
+
+/// Both sides by turns, each first in every other round, so that a slow moment of the machine hits both.
+pub fn bench(oracle: &str, seconds: f64) -> u64 {
+    let mut all = subjects();
+    for round in 0..ROUNDS {
+        for s in &mut all {
+            if round % 2 == 0 {
+                s.ours(seconds);
+                s.theirs(oracle, seconds);
+            } else {
+                s.theirs(oracle, seconds);
+                s.ours(seconds);
+            }
+        }
+        eprintln!("round {} of {ROUNDS}", round + 1);
+    }
+    let most = print("Reading, lexing included", &all, |s| &s.reading);
+    print("Lexing alone", &all, |s| &s.lexing);
+    let verdict = if most <= LIMIT { "within" } else { "OVER" };
+    println!("A byte of a text of labels is read in at most {most:.2} times an ordinary patch's: {verdict} the limit of {LIMIT}.");
+    (most > LIMIT) as u64
+}
+
+/// Lexing alone, on one text.
+pub fn lex(text: &[u8], seconds: f64) {
+    let speed = lexing(text, &mut vec![0; text.len()], seconds);
+    println!("lexing {} bytes: {:.1} MB/s best, {:.1} median", text.len(), speed.best, speed.median);
+}
