@@ -149,24 +149,31 @@ fn subjects() -> Vec<Subject> {
 
 const ORDINARY: &str = "ordinary patch, 64 KB";
 
-/// A row for each text. The last column is given where the text is all labels.
+const HEAD: &str = "\
+| text                          | bytes | tokens | labels |  here | median |  Rust | median | ratio | medians | ns/byte | times |
+|-------------------------------|------:|-------:|-------:|------:|-------:|------:|-------:|------:|--------:|--------:|------:|";
+
+/// MB/s, with more places where there are few of them.
+fn places(speed: f64) -> String {
+    if speed < 10.0 { format!("{speed:.2}") } else { format!("{speed:.1}") }
+}
+
+/// A row for each text. The last column is a byte's time in times of the ordinary patch's, where the text is all labels; the most of it.
 fn print(what: &str, all: &[Subject], sides: fn(&Subject) -> &Sides) -> f64 {
     let ordinary = Speed::of(&sides(all.iter().find(|s| s.what == ORDINARY).unwrap()).ours).ns_per_byte();
     let mut most = 0f64;
-    println!("{what}, MB/s:\n");
-    println!("| text                          |  bytes | tokens | labels |   here | median | the Rust | median | ratio | of medians | ns/byte | to ordinary |");
-    println!("|-------------------------------|-------:|-------:|-------:|-------:|-------:|---------:|-------:|------:|-----------:|--------:|------------:|");
+    println!("{what}, MB/s:\n\n{HEAD}");
     for s in all {
         let (ours, theirs) = (Speed::of(&sides(s).ours), Speed::of(&sides(s).theirs));
-        let times = ours.ns_per_byte() / ordinary;
-        let told = if s.what.starts_with("labels") { format!("{times:.2}") } else { String::new() };
-        if !told.is_empty() {
-            most = most.max(times);
+        let mut times = String::new();
+        if s.what.starts_with("labels") {
+            most = most.max(ours.ns_per_byte() / ordinary);
+            times = format!("{:.2}", ours.ns_per_byte() / ordinary);
         }
         println!(
-            "| {:<29} | {:>6} | {:>6} | {:>6} | {:>6.1} | {:>6.1} | {:>8.1} | {:>6.1} | {:>5.2} | {:>10.2} | {:>7.1} | {told:>11} |",
-            s.what, s.text.len(), s.counts[0], s.counts[4], ours.best, ours.median, theirs.best, theirs.median,
-            ours.best / theirs.best, ours.median / theirs.median, ours.ns_per_byte(),
+            "| {:<29} | {:>5} | {:>6} | {:>6} | {:>5} | {:>6} | {:>5} | {:>6} | {:>5.3} | {:>7.3} | {:>7.1} | {times:>5} |",
+            s.what, s.text.len(), s.counts[0], s.counts[4], places(ours.best), places(ours.median), places(theirs.best),
+            places(theirs.median), ours.best / theirs.best, ours.median / theirs.median, ours.ns_per_byte(),
         );
     }
     println!();
