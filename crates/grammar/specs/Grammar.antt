@@ -38,8 +38,8 @@ abbrev pub pairs : ℕ → List Class
 pairs zero = []
 pairs (suc k) = u8 ∷ string ∷ pairs k
 
--- by its shape: the classes of its operands, and its blocks. Shapes are named by their operands; the rules here, by the
--- first action that has them
+-- by its shape: the classes of its operands, and its blocks. Shapes are named by their operands; the rules here, by an
+-- action that has them
 pub data Takes : Shape → List Class → Body → Type 0 where
   push : (k : ℕ) → Takes S.Values (replicate k value) nothing
   constantPool : (k : ℕ) → Takes S.Strings (replicate k string) nothing

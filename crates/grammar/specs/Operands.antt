@@ -23,6 +23,9 @@ use Rattle.values.specs.Values.{pushValue}
 pub data Lexeme : Type 0 where
   lexeme : ℕ → TokenKind → List ℕ → Lexeme
 
+abbrev pub placeOf : Lexeme → ℕ
+placeOf (lexeme i k w) = i
+
 abbrev pub raw : Lexeme → List ℕ
 raw (lexeme i k w) = w
 

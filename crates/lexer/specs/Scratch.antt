@@ -1,4 +1,4 @@
--- What the inner functions of lexing ensure of their scratch table. No public contract cites it.
+-- What the inner functions of lexing ensure of their scratch table. Of the calls for other crates only `lex_into` cites it.
 use mathlib.Core.Path.{_≡_}
 use mathlib.Core.List.{List, [], map}
 use Prim.Native.Nat.{ℕ, _≤_, _<_}

@@ -21,7 +21,7 @@ wholeEnd s = digitsEnd s (minusEnd s)
 unfoldable pub mantissaEnd : List ℕ → ℕ
 mantissaEnd s = pointEnd s (wholeEnd s)
 
--- how many digits stand behind the point
+-- how many digits stand behind the point; 0 where there is none, since a difference is not below 0
 unfoldable pub fractionDigits : List ℕ → ℕ
 fractionDigits s = mantissaEnd s - (wholeEnd s + 1)
 

@@ -3,13 +3,10 @@ use mathlib.Core.List.{List}
 use Prim.Native.Nat.{ℕ, _+_, _*_}
 use lib.ListN.{set}
 use Rattle.actions.specs.Numbers.{numberOf}
-use Rattle.grammar.specs.Operands.{Lexeme, lexeme}
+use Rattle.grammar.specs.Operands.{placeOf}
 use Rattle.grammar.specs.Grammar.{Part, body, try, catch, finally}
 use Rattle.grammar.proofs.Events.{Event, acted, named, given, opened, closed}
 use Rattle.operands.specs.declared.At.{At}
-
-abbrev pub placeOf : Lexeme → ℕ
-placeOf (lexeme i k w) = i
 
 abbrev pub partNumber : Part → ℕ
 partNumber body = 0

@@ -6,13 +6,12 @@ use Prim.Native.Nat.{ℕ, suc, _+_, _/_, _≤_, _<_}
 use native.Mathlib.Omega.{arith}
 use lib.ListN.{length, getD}
 use Rattle.tokens.specs.Tokens.{tokenOf, rawText}
-use Rattle.grammar.specs.Operands.{Lexeme, raw}
+use Rattle.grammar.specs.Operands.{Lexeme, raw, placeOf}
 use Rattle.grammar.specs.Grammar.{Items, done, label, action, Blocks, no-blocks, block}
 use Rattle.grammar.specs.Reading as R
 use Rattle.grammar.specs.Reading.{Opened, ownActions, allActions, actionsInside, openedOf, openedIn, opened, sameName, place, ownLabels, labelsFrom}
 use Rattle.grammar.proofs.Tests.{either}
 use Rattle.operands.specs.Lexemes.{lexemeOf}
-use Rattle.operands.specs.Log.{placeOf}
 use Rattle.entries.specs.declared.Label as D
 use Rattle.entries.specs.Entries as E
 use Rattle.entries.proofs.Words.{label-back}

@@ -8,13 +8,13 @@ use lib.Seq.{set-set, set-getD, set-append-left, getD-append-seam, getD-set-same
 use Rattle.names.specs.declared.ActionName.{ActionName}
 use Rattle.actions.specs.Numbers.{numberOf}
 use Rattle.actions.proofs.Numbers.{number-below}
-use Rattle.grammar.specs.Operands.{Lexeme}
+use Rattle.grammar.specs.Operands.{Lexeme, placeOf}
 use Rattle.grammar.specs.Grammar.{Part, body, try, catch, finally, Items, done, label, action, Blocks, no-blocks, block}
 use Rattle.grammar.specs.Reading.{ownActions, allActions, actionsInside, openedOf, openedIn, actedOf, actedIn}
 use Rattle.grammar.proofs.Events.{Event, leading, waiting}
 use Rattle.grammar.proofs.Events as E
 use Rattle.grammar.proofs.Unique.{events, block-events, givens}
-use Rattle.operands.specs.Log.{placeOf, partNumber, logWord, eventWord}
+use Rattle.operands.specs.Log.{partNumber, logWord, eventWord}
 use Rattle.reading.specs.Trees.{All, AllOf, AllIn, IsLow, actedWord, levelOwner, levelCount, entry, givenOf, givenIn, namedOf, namedIn}
 use Rattle.tabling.specs.Tabling.{Tables, actionWord, labelWord, ownerWord, levelOf, ownerOf, acted, named, given, opened, closed, by, step, steps, start}
 

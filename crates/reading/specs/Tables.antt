@@ -14,10 +14,10 @@ use Rattle.entries.specs.declared.Net.{Net}
 use Rattle.entries.specs.declared.Net.the-variants as N
 use Rattle.entries.specs.declared.Level.{Level}
 use Rattle.entries.specs.declared.Label.{Label}
+use Rattle.grammar.specs.Operands.{placeOf}
 use Rattle.grammar.specs.Grammar.{Part, body, try, catch, finally}
 use Rattle.grammar.specs.Reading as R
 use Rattle.grammar.specs.Nets as Nets
-use Rattle.operands.specs.Log.{placeOf}
 
 -- how many of the operands action a has
 abbrev pub under : ℕ → List R.Operand → ℕ

@@ -7,7 +7,7 @@ use Rattle.answers.specs.Answers.{accepted, refusal}
 use Rattle.lexer.specs.Lexing.{lexText}
 use Rattle.tokens.specs.declared.Token.{Token}
 use Rattle.tokens.specs.Tokens.{wordOf}
-use Rattle.grammar.specs.Operands.{Lexeme, numbered}
+use Rattle.grammar.specs.Operands.{Lexeme, numbered, placeOf}
 use Rattle.grammar.specs.Grammar.{Items, Text}
 use Rattle.grammar.specs.Reading.{ownActions, allActions, openedOf, opened, actedOf, labelsFrom, readingOf}
 use Rattle.grammar.specs.Nets.{nets}
@@ -15,7 +15,6 @@ use Rattle.grammar.specs.Refusals.{Outcome, Answers}
 use Rattle.grammar.proofs.Sizes.{size}
 use Rattle.grouping.specs.Grouping.{Below}
 use Rattle.operands.specs.Lexemes.{lexemeOf}
-use Rattle.operands.specs.Log.{placeOf}
 use Rattle.parser.specs.Parsed.{logOf}
 use Rattle.tabling.specs.declared.State.{State}
 use Rattle.tabling.specs.Tabling.{Rooms}

@@ -4,11 +4,11 @@ use mathlib.Core.Option.{Option, none, some}
 use Prim.Native.Nat.{ℕ, suc, _+_, _<_}
 use lib.ListN.{length}
 use Rattle.actions.specs.Numbers.{numberOf}
-use Rattle.grammar.specs.Operands.{Lexeme}
+use Rattle.grammar.specs.Operands.{Lexeme, placeOf}
 use Rattle.grammar.specs.Grammar.{Items, done, label, action, Blocks, no-blocks, block}
 use Rattle.grammar.specs.Reading.{Owner, Opened, Acted, ownActions, allActions, actionsInside, openedOf, openedIn}
 use Rattle.grammar.proofs.Events.{leading, waiting}
-use Rattle.operands.specs.Log.{placeOf, partNumber}
+use Rattle.operands.specs.Log.{partNumber}
 use Rattle.tabling.specs.Tabling.{actionWord, operandWord, labelWord, ownerWord}
 
 abbrev pub actedWord : Acted → ℕ

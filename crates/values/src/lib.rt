@@ -93,7 +93,7 @@ fn integer_value(s: &[u8], raw: Span) -> TokenValue
     float_value(s, raw)
 }
 
-// `push_value` of a token of that kind, raw text and bounds.
+// The value of a token of that kind, raw text and bounds.
 fn kind_value(kind: TokenKind, s: &[u8], raw: Span) -> TokenValue
     requires { ⌜ length (now s) ≤ 65536 ⌝ }
     ensures { λ r. ⌜ answer r ≡ orSix (pushValue kind (now (s .entry)) raw) ⌝ }
