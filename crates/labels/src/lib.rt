@@ -24,7 +24,8 @@ struct Merging {
     left: usize,
 }
 
-fn same_bytes(a: &[u8], b: &[u8]) -> bool
+// Names compare byte for byte.
+pub fn same_bytes(a: &[u8], b: &[u8]) -> bool
     ensures { λ r. ⌜ r ≡ sameName (now (a .entry)) (now (b .entry)) ⌝ }
 {
     if a.len() != b.len() {
