@@ -52,9 +52,9 @@ same-accepted h g = cc
 unlike : {A B : Type 0} {a : A} {n p : ℕ} → (_≡_ {A = Answer A} (refused n p) (accepted a)) → B
 unlike h = absurd (let z : _≡_ {A = ℕ} 0 1 = cc in omega arith)
 
-record Lexed (text : List ℕ) (ts : List Token) : Type 0 where
-  small : length text ≤ 65536
-  made : lexFrom text 0 0 ≡ accepted ts
+pub record Lexed (text : List ℕ) (ts : List Token) : Type 0 where
+  pub small : length text ≤ 65536
+  pub made : lexFrom text 0 0 ≡ accepted ts
 
 module _ (room : ℕ) (ts : List Token) where
   in-room : (b : Bool) (n : ℕ) (l : List Token) → cond b (refused 5 n) (accepted l) ≡ accepted ts → accepted l ≡ accepted ts
@@ -72,7 +72,7 @@ module _ (room : ℕ) (ts : List Token) where
     by-rows false true n h e = unlike e
     by-rows false false n h e = record { small = ltb-false 65536 (length text) h; made = unfitted (lexFrom text 0 0) e }
 
-    lexed : lexText text room ≡ accepted ts → Lexed text ts
+    pub lexed : lexText text room ≡ accepted ts → Lexed text ts
     unfolding lexText
     lexed e = by-rows (ltb 65536 (length text)) (ltb (validUpTo text) (length text)) (validUpTo text) refl e
 

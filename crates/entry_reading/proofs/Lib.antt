@@ -1,0 +1,4 @@
+pub mod Rows
+pub mod Array
+pub mod Answer
+pub mod Scratch
