@@ -18,8 +18,8 @@
  * words and numbers are answered.
  *
  * What a call does: it writes what is told here and nothing else. It keeps no pointer, has no state and allocates nothing, so threads
- * may call at the same time with tables and out of their own. Stack: pcode_read 4.8 MB whatever the text, pcode_lex 0.6 MB, the others
- * less than 4 KB. A thread may have less unless it is given more; a main thread usually has 8 MB.
+ * may call at the same time with tables and out of their own. Stack: pcode_read 4.8 MB (2.1 MB for a text of up to 8,192 bytes),
+ * pcode_lex 0.6 MB, the others less than 4 KB. A thread may have less unless it is given more; a main thread usually has 8 MB.
  *
  * A call that can refuse returns 0, or the number of the refusal. A refusal changes no table. Its place goes to out[0] of pcode_lex and
  * pcode_read, the rest of out staying as it was; pcode_delta and pcode_value then write nothing.
