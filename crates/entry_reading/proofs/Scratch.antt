@@ -122,9 +122,16 @@ abbrev pub Passed : Type 0
 Passed = List Val × (List Val × (List Val × (List Val × (List Val × (List Val × Unit {0})))))
 
 abbrev pub stayed : Stays (read-small.ended .signature .params) (read-small.ended .kept)
-stayed =
-    (stay-none-slice (0 ∷ []) tt (plain (λ _. u8)) yes, (gave-slice (1 ∷ []) tt (plain (λ _. u64)), (gave-slice (2 ∷ []) tt (plain (λ _. u64)),
-    (gave-slice (3 ∷ []) tt (plain (λ _. u64)), (gave-slice (4 ∷ []) tt (plain (λ _. u64)), (gave-slice (5 ∷ []) tt (plain (λ _. Entry)), tt))))))
+stayed = (
+  stay-none-slice (0 ∷ []) tt (plain (λ _. u8)) yes,
+  (
+    gave-slice (1 ∷ []) tt (plain (λ _. u64)),
+    (
+      gave-slice (2 ∷ []) tt (plain (λ _. u64)),
+      (gave-slice (3 ∷ []) tt (plain (λ _. u64)), (gave-slice (4 ∷ []) tt (plain (λ _. u64)), (gave-slice (5 ∷ []) tt (plain (λ _. Entry)), tt))),
+    ),
+  ),
+)
 
 module _ {M : Type 1} (𝓤 : URA M) (H : Heap 𝓤) (A : Atoms 𝓤) (mem : Memory → SProp 𝓤) (run : Routine → Fun 𝓤) where
   -- the contracts that the walk cites
@@ -283,66 +290,66 @@ module _ {M : Type 1} (𝓤 : URA M) (H : Heap 𝓤) (A : Atoms 𝓤) (W : Given
 
       pub walk : ent 𝓤 (onEntry 𝓤 H A read-small.signature κs qs a passed) (WpFn 𝓤 H C Λ (code N) (sv x ∷ sv y₁ ∷ sv y₂ ∷ sv y₃ ∷ sv y₄ ∷ sv z ∷ []) Post)
       walk =
-        qed W ((‵ (flft κ₀ q₀) ⊛ ‵ (flft κ₁ q₁) ⊛ ‵ (flft κ₂ q₂) ⊛ ‵ (flft κ₃ q₃) ⊛ ‵ (flft κ₄ q₄) ⊛ ‵ (flft κ₅ q₅) ⊛ ‵ ftrue)
-        ∷ ‵ (owns (ShrSlice (named 0) κ₀ u8 ∷ MutSlice (named 1) κ₁ u64 ∷ MutSlice (named 2) κ₂ u64 ∷ MutSlice (named 3) κ₃ u64 ∷ MutSlice (named 4) κ₄ u64 ∷ MutSlice (named 5) κ₅ Entry ∷ []) a passed) ∷ []) ∵
-        enter ! C Λ (code N) (sv x ∷ sv y₁ ∷ sv y₂ ∷ sv y₃ ∷ sv y₄ ∷ sv z ∷ []) _ $
-        alloc1 ! (λ l₀. alloc1 ! (λ l₁. alloc1 ! (λ l₂. alloc1 ! (λ l₃. alloc1 ! (λ l₄. alloc1 ! (λ l₅. alloc1 ! (λ l₆. alloc1 ! (λ l₇. alloc1 ! (λ l₈. alloc1 ! (λ l₉. alloc1 ! (λ l₁₀. alloc1 ! (λ l₁₁. alloc1 ! (λ l₁₂. alloc1 ! (λ l₁₃. alloc1 ! (λ l₁₄. alloc1 ! (λ l₁₅. alloc1 ! (λ l₁₆. alloc1 ! (λ l₁₇. alloc1 ! (λ l₁₈. alloc1 ! (λ l₁₉. alloc1 ! (λ l₂₀. alloc1 ! (λ l₂₁. alloc1 ! (λ l₂₂. alloc1 ! (λ l₂₃. alloc1 ! (λ l₂₄. alloc1 ! (λ l₂₅. alloc0 ! $ params1 ! $
-        pass1 ! (init ! 48 refl (tt, (tt, (record { fits = x-room .0 }, tt)))) $ pass1 ! (init ! 46 refl (tt, (tt, (record { fits = y₁-room .0 }, tt)))) $ pass1 ! (init ! 44 refl (tt, (tt, (record { fits = y₂-room .0 }, tt)))) $ pass1 ! (init ! 42 refl (tt, (tt, (record { fits = y₃-room .0 }, tt)))) $ pass1 ! (init ! 40 refl (tt, (tt, (record { fits = y₄-room .0 }, tt)))) $ pass1 ! (init ! 38 refl (tt, (tt, (record { fits = z-room .0 }, tt)))) $ pass0 ! $
-        -- [_25; …; _0; …; the tokens; what the parameters own]
-        assigns ! (rep ! N (lit ! tt)) (from ! (stop !)) (init ! 36 refl (repeat-typed 𝓤 H A W u64 (uint-lawful 𝓤 H A W w64) N 0 (vint w64 0) zero-is)) $
-        assigns ! (of-opd ! (load ! (from ! (fld ! refl (stop !))) (look-in ! 38 (sub ! 1 refl (whole !))))) (from ! (stop !)) (init ! 34 refl (tt, record { fits = z-room .0 })) $
-        assigns ! (addr ! (from ! (fld ! refl (hop ! (look-in ! 46 (sub ! 0 refl (whole !))) (stop !))))) (from ! (stop !)) (init ! 28 refl (tt, tt)) $
-        assigns ! (agg ! (and-then ! (load ! (from ! (stop !)) (look ! 28 refl)) (and-then ! (load ! (from ! (fld ! refl (stop !))) (look-in ! 46 (sub ! 1 refl (whole !)))) (no-more !)))) (from ! (stop !)) (init ! 26 refl (tt, (tt, (record { fits = y₁-room .0 }, tt)))) $
-        assigns ! (addr ! (from ! (fld ! refl (hop ! (look-in ! 44 (sub ! 0 refl (whole !))) (stop !))))) (from ! (stop !)) (init ! 24 refl (tt, tt)) $
-        assigns ! (agg ! (and-then ! (load ! (from ! (stop !)) (look ! 24 refl)) (and-then ! (load ! (from ! (fld ! refl (stop !))) (look-in ! 44 (sub ! 1 refl (whole !)))) (no-more !)))) (from ! (stop !)) (init ! 22 refl (tt, (tt, (record { fits = y₂-room .0 }, tt)))) $
-        assigns ! (addr ! (from ! (fld ! refl (hop ! (look-in ! 42 (sub ! 0 refl (whole !))) (stop !))))) (from ! (stop !)) (init ! 20 refl (tt, tt)) $
-        assigns ! (agg ! (and-then ! (load ! (from ! (stop !)) (look ! 20 refl)) (and-then ! (load ! (from ! (fld ! refl (stop !))) (look-in ! 42 (sub ! 1 refl (whole !)))) (no-more !)))) (from ! (stop !)) (init ! 18 refl (tt, (tt, (record { fits = y₃-room .0 }, tt)))) $
-        assigns ! (addr ! (from ! (fld ! refl (hop ! (look-in ! 40 (sub ! 0 refl (whole !))) (stop !))))) (from ! (stop !)) (init ! 16 refl (tt, tt)) $
-        assigns ! (agg ! (and-then ! (load ! (from ! (stop !)) (look ! 16 refl)) (and-then ! (load ! (from ! (fld ! refl (stop !))) (look-in ! 40 (sub ! 1 refl (whole !)))) (no-more !)))) (from ! (stop !)) (init ! 14 refl (tt, (tt, (record { fits = y₄-room .0 }, tt)))) $
-        assigns ! (addr ! (from ! (stop !))) (from ! (stop !)) (init ! 12 refl (tt, tt)) $
-        assigns ! (agg ! (and-then ! (load ! (from ! (stop !)) (look ! 12 refl)) (and-then ! (big ! N-fits) (no-more !)))) (from ! (stop !)) (init ! 10 refl (tt, (tt, (N-fits, tt)))) $
-        rewrite ! 10 (λ (m : ℕ). ‵ (fat fullShare (sliceTy wordRef) l₂₀ 0 (sliceVal (l₇, 0) m))) (sym blank-count) refl $
-        -- what the parameters own, and the tokens; what text owns is had twice
-        move ! (53 ∷ []) $ fsplit ! $ move ! (1 ∷ []) $ fsplit ! $ move ! (1 ∷ []) $ fsplit ! $ move ! (1 ∷ []) $ fsplit ! $ move ! (1 ∷ []) $ fsplit ! $ move ! (1 ∷ []) $ fsplit ! $ move ! (59 ∷ []) $ split ! $ move ! (1 ∷ []) $ split ! $ move ! (1 ∷ []) $ split ! $ move ! (1 ∷ []) $ split ! $ move ! (1 ∷ []) $ split ! $ move ! (1 ∷ []) $ split ! $ move ! (13 ∷ []) $ use1 W (‵ X ⊛ ‵ X) (shr-slice-copy 𝓤 H A W (named 0) κ₀ u8 .twice x (sv x ∷ [])) $ split ! $
-        -- the array is lent for the call
-        move ! (51 ∷ []) $ owned ! u64 (Is u64) (uint-makes 𝓤 H A W w64) 0 (vint w64 0 ∷ []) zero-is $ use2 W (‵ (cells (mem-of u64) blank l₇ 0)) (in-cells 𝓤 H A W u64 tt (uint-copy 𝓤 H A W w64) N l₇ 0 (vint w64 0)) $ lft-new ! tt (λ α. move ! (1 ∷ []) $ use1 W (later (some (λ (γ : GName). ‵ (MutSlice (named 5) (α ∷ []) u64 .own (scratch γ l₇ blank) (sliceVal (l₇, 0) (length blank) ∷ [])) ⊛ ‵ (flent (α ∷ []) (Held u64 (length blank) l₇ 0 γ))))) (lends-slice 𝓤 H A W u64 (named 5) (α ∷ []) blank l₇ 0 zeros-room) $ await ! tt $ pick ! (λ γ. split ! $
-        nothing ! $ owned ! usize (Is usize) (uint-makes 𝓤 H A W w64) (length (z .now)) _ (refl, z-room .0) $ fjoin ! $ move ! (1 ∷ 0 ∷ []) $ fjoin ! $ move ! (14 ∷ 0 ∷ []) $ fjoin ! $ move ! (14 ∷ 0 ∷ []) $ fjoin ! $ move ! (14 ∷ 0 ∷ []) $ fjoin ! $ move ! (14 ∷ 0 ∷ []) $ fjoin ! $ move ! (3 ∷ 0 ∷ []) $ fjoin ! $
-        nothing ! $ move ! (3 ∷ 0 ∷ []) $ join ! $ move ! (6 ∷ 0 ∷ []) $ join ! $ move ! (6 ∷ 0 ∷ []) $ join ! $ move ! (6 ∷ 0 ∷ []) $ join ! $ move ! (6 ∷ 0 ∷ []) $ join ! $ move ! (6 ∷ 0 ∷ []) $ join ! $ use2 W (raw (ReadWords 𝓤 H A mem run .pre (to-words α γ l₇))) (asks-words α γ l₇) $
-        calls-at ! fm (ReadWords 𝓤 H A mem run) known-words (to-words α γ l₇) (and-then ! (load ! (from ! (stop !)) (look ! 54 refl)) (and-then ! (load ! (from ! (stop !)) (look ! 33 refl)) (and-then ! (load ! (from ! (stop !)) (look ! 29 refl)) (and-then ! (load ! (from ! (stop !)) (look ! 25 refl)) (and-then ! (load ! (from ! (stop !)) (look ! 21 refl)) (and-then ! (load ! (from ! (stop !)) (look ! 17 refl)) (and-then ! (load ! (from ! (stop !)) (look ! 41 refl)) (no-more !)))))))) (λ v.
-        use1 W (later (some (λ (r : Reading). (Tokens α ⊛ ‵ (Answer .own r (v ∷ []))) ⊛ raw (ensured 𝓤 H A read-words.ended (read-words.clauses 𝓤 H A mem run) (κs-words α) (a-words γ l₇) tt r)))) (id⊢ 𝓤 _) $ await ! tt $ pick ! (λ r. split ! $ move ! (1 ∷ []) $ use1 W (some (λ (ws : LastWords). ‵ (lasts read-words.ended (κs-words α) (a-words γ l₇) ws) ⊛ raw (fact 𝓤 (Told ws r)))) (id⊢ 𝓤 _) $ pick ! (λ ws. split ! $ move ! (1 ∷ []) $ heard ! (Told ws r) (λ told.
-        -- the last lists, and that each is as long as it was
-        fsplit ! $ drop ! $ fsplit ! $ fsplit ! $ move ! (1 ∷ []) $ feqL ! (λ e₁. move ! (1 ∷ []) $ fsplit ! $ fsplit ! $ move ! (1 ∷ []) $ feqL ! (λ e₂. move ! (1 ∷ []) $ fsplit ! $ fsplit ! $ move ! (1 ∷ []) $ feqL ! (λ e₃. move ! (1 ∷ []) $ fsplit ! $ fsplit ! $ move ! (1 ∷ []) $ feqL ! (λ e₄. move ! (1 ∷ []) $ fsplit ! $ fsplit ! $ move ! (1 ∷ []) $ feqL ! (λ e₅.
-        move ! (6 ∷ []) $ split ! $ move ! (1 ∷ []) $ peeks ! Answer (Is Answer) (shows 𝓤 H A Answer) r (v ∷ []) (λ g. drop ! $
-        land ! (from ! (stop !)) (init ! 45 refl (answer-typed 𝓤 H A W r v g)) $
-        -- the call's lifetime is ended, and the array is back
-        split ! $ move ! (1 ∷ []) $ split ! $ move ! (1 ∷ []) $ split ! $ move ! (1 ∷ []) $ split ! $ move ! (1 ∷ []) $ split ! $ move ! (1 ∷ []) $ split ! $ lft-end ! tt $ move ! (0 ∷ 13 ∷ 7 ∷ []) $ use3 W (later (‵ (Arr (mem-of u64) (length blank) .lies (words-of ws) l₇ 0))) (slice-back 𝓤 H A W u64 (α ∷ []) γ (words-of ws) (length blank) l₇ 0) $ await ! tt $ fsplit ! $ drop ! $
-        -- how many labels there are
-        use0 W (raw (LabelCount 𝓤 H A mem run .pre (to-count r v))) (asks-count r v g) $
-        calls-at ! fm (LabelCount 𝓤 H A mem run) known-count (to-count r v) (and-then ! (load ! (from ! (stop !)) (look ! 50 refl)) (no-more !)) (λ u.
-        use1 W (later (some (λ (n : ℕ). (‵ ftrue ⊛ ‵ (usize .own n (u ∷ []))) ⊛ raw (ensured 𝓤 H A label-count.ended (label-count.clauses 𝓤 H A mem run) tt (r, tt) tt n)))) (id⊢ 𝓤 _) $ await ! tt $ pick ! (λ n. split ! $ move ! (1 ∷ []) $ use1 W (raw (fact 𝓤 (n ≡ labelCount r))) (count-told 𝓤 H A mem run r n) $ heard ! (n ≡ labelCount r) (λ is-n. split ! $ drop ! $
-        facts ! usize (Is usize) (shows 𝓤 H A usize) n (u ∷ []) (λ g′.
-        land ! (from ! (stop !)) (init ! 47 refl (uint-lawful 𝓤 H A W w64 .typed n _ g′ .0)) $
-        rewrite ! 47 (λ (c : Val). ‵ (fat fullShare word l₁₀ 0 c)) (ap only (g′ .0)) refl $
-        assigns ! (addr ! (from ! (stop !))) (from ! (stop !)) (init ! 23 refl (tt, tt)) $
-        assigns ! (agg ! (and-then ! (load ! (from ! (stop !)) (look ! 23 refl)) (and-then ! (big ! N-fits) (no-more !)))) (from ! (stop !)) (init ! 21 refl (tt, (tt, (N-fits, tt)))) $
-        rewrite ! 21 (λ (m : ℕ). ‵ (fat fullShare (sliceTy (tyRef erased imm word)) l₂₃ 0 (sliceVal (l₇, 0) m))) (sym (same-count ws e₅)) refl $
-        assigns ! (addr ! (from ! (fld ! refl (hop ! (look-in ! 54 (sub ! 0 refl (whole !))) (stop !))))) (from ! (stop !)) (init ! 19 refl (tt, tt)) $
-        assigns ! (agg ! (and-then ! (load ! (from ! (stop !)) (look ! 19 refl)) (and-then ! (load ! (from ! (fld ! refl (stop !))) (look-in ! 54 (sub ! 1 refl (whole !)))) (no-more !)))) (from ! (stop !)) (init ! 17 refl (tt, (tt, (record { fits = z-room .0 }, tt)))) $
-        -- the array is lent as `&`, and the labels are made of it
-        use1 W (‵ (row u64 fullShare (words-of ws) l₇ 0)) (whole-out 𝓤 H A W u64 (words-of ws) l₇ 0) $ feqI ! ℕ (length (words-of ws)) (length (words-of ws)) refl $ fjoin ! $ lft-new ! tt (λ β. move ! (1 ∷ []) $ use1 W (later (some (λ (δ : GName). ‵ (ShrSlice (named 0) (β ∷ []) u64 .own (scratch δ l₇ (words-of ws)) (sliceVal (l₇, 0) (length (words-of ws)) ∷ [])) ⊛ ‵ (flent (β ∷ []) (arr-parts (shares u64) (length (words-of ws)) .part fullShare (words-of ws) l₇ 0))))) (lends-shr-slice 𝓤 H A W u64 (named 0) (β ∷ []) fullShare (words-of ws) l₇ 0 (words-room ws e₅)) $ await ! tt $ pick ! (λ δ. split ! $
-        nothing ! $ move ! (18 ∷ 0 ∷ []) $ fjoin ! $ owned ! usize (Is usize) (uint-makes 𝓤 H A W w64) n _ (refl, g′ .1) $ fjoin ! $ move ! (1 ∷ 0 ∷ []) $ fjoin ! $ nothing ! $ move ! (16 ∷ 0 ∷ []) $ join ! $ move ! (3 ∷ 0 ∷ []) $ join ! $ use2 W (raw (PutLabels 𝓤 H A mem run .pre (to-put β δ l₇ n ws))) (asks-put β δ l₇ n ws (subst (Few ws) (sym is-n) (enough _ _ _ _ _ _ _ _ _ _ _ (z .now) r told))) $
-        calls-at ! fm (PutLabels 𝓤 H A mem run) known-put (to-put β δ l₇ n ws) (and-then ! (load ! (from ! (stop !)) (look ! 20 refl)) (and-then ! (load ! (from ! (stop !)) (look ! 46 refl)) (and-then ! (load ! (from ! (stop !)) (look ! 16 refl)) (no-more !)))) (λ w.
-        use1 W (later (some (λ (o : Unit {0}). ((‵ (flft (β ∷ []) fullShare) ⊛ ‵ (flft κ₅ q₅) ⊛ ‵ ftrue) ⊛ ‵ (Nothing .own o (w ∷ []))) ⊛ raw (ensured 𝓤 H A put-labels.ended (put-labels.clauses 𝓤 H A mem run) (β ∷ [], (κ₅, tt)) (a-put δ l₇ n ws) tt o)))) (id⊢ 𝓤 _) $ await ! tt $ pick ! (λ o. split ! $ move ! (1 ∷ []) $ use1 W (some (λ (ls : LastLabels). ‵ (lasts put-labels.ended (β ∷ [], (κ₅, tt)) (a-put δ l₇ n ws) ls) ⊛ raw (fact 𝓤 (ls .1 .1 .0 ≡ map labelOf (take n (words-of ws)) ++ behind n (z .now))))) (id⊢ 𝓤 _) $ pick ! (λ ls. split ! $ move ! (1 ∷ []) $ heard ! (ls .1 .1 .0 ≡ map labelOf (take n (words-of ws)) ++ behind n (z .now)) (λ made.
-        fsplit ! $ drop ! $ fsplit ! $ drop ! $ fsplit ! $ fsplit ! $ move ! (1 ∷ []) $ feqL ! (λ e₆.
-        move ! (2 ∷ []) $ split ! $ move ! (1 ∷ []) $ facts ! Nothing (Is Nothing) (shows 𝓤 H A Nothing) o (w ∷ []) (λ g″.
-        land ! (from ! (stop !)) (init ! 26 refl (nothing-lawful 𝓤 H A W .typed o _ g″ .0)) $
-        -- the array is room again
-        split ! $ move ! (1 ∷ []) $ split ! $ move ! (2 ∷ []) $ lft-end ! tt $ move ! (0 ∷ 5 ∷ []) $ lent-back ! tt $ use1 W (‵ (froom (tyArray word (length (words-of ws))) l₇ 0)) (to-room 𝓤 H A W u64 (length (words-of ws)) l₇ (words-of ws)) $ rewrite ! 0 (λ (m : ℕ). ‵ (froom (tyArray word m) l₇ 0)) (same-count ws e₅) refl $
-        assigns ! (of-opd ! (load ! (from ! (stop !)) (look ! 51 refl))) (from ! (stop !)) (init ! 68 refl (answer-typed 𝓤 H A W r v g)) $
-        returns ! (look ! 68 refl) $ forget ! 68 refl $ forget ! 66 refl $ forget ! 64 refl $ forget ! 62 refl $ forget ! 60 refl $ forget ! 58 refl $ forget ! 56 refl $ forget ! 53 refl $ forget ! 51 refl $ forget ! 49 refl $ forget ! 47 refl $ forget ! 45 refl $ forget ! 43 refl $ forget ! 41 refl $ forget ! 39 refl $ forget ! 37 refl $ forget ! 35 refl $ forget ! 33 refl $ forget ! 31 refl $ forget ! 29 refl $ forget ! 27 refl $ forget ! 25 refl $ forget ! 23 refl $ forget ! 21 refl $ forget ! 19 refl $
-        move ! (68 ∷ 69 ∷ []) $ free1 ! $ move ! (66 ∷ 67 ∷ []) $ free1 ! $ move ! (64 ∷ 65 ∷ []) $ free1 ! $ move ! (62 ∷ 63 ∷ []) $ free1 ! $ move ! (60 ∷ 61 ∷ []) $ free1 ! $ move ! (58 ∷ 59 ∷ []) $ free1 ! $
-        move ! (56 ∷ 57 ∷ []) $ free1 ! $ move ! (0 ∷ 55 ∷ []) $ free1 ! $ move ! (52 ∷ 53 ∷ []) $ free1 ! $ move ! (50 ∷ 51 ∷ []) $ free1 ! $ move ! (48 ∷ 49 ∷ []) $ free1 ! $ move ! (46 ∷ 47 ∷ []) $ free1 ! $
-        move ! (44 ∷ 45 ∷ []) $ free1 ! $ move ! (42 ∷ 43 ∷ []) $ free1 ! $ move ! (40 ∷ 41 ∷ []) $ free1 ! $ move ! (38 ∷ 39 ∷ []) $ free1 ! $ move ! (36 ∷ 37 ∷ []) $ free1 ! $ move ! (34 ∷ 35 ∷ []) $ free1 ! $
-        move ! (32 ∷ 33 ∷ []) $ free1 ! $ move ! (30 ∷ 31 ∷ []) $ free1 ! $ move ! (28 ∷ 29 ∷ []) $ free1 ! $ move ! (26 ∷ 27 ∷ []) $ free1 ! $ move ! (24 ∷ 25 ∷ []) $ free1 ! $ move ! (22 ∷ 23 ∷ []) $ free1 ! $
-        move ! (20 ∷ 21 ∷ []) $ free1 ! $ move ! (18 ∷ 19 ∷ []) $ free1 ! $ free0 ! $
-        keep ! (14 ∷ 13 ∷ 12 ∷ 11 ∷ 2 ∷ 15 ∷ 9 ∷ 8 ∷ 7 ∷ 6 ∷ 5 ∷ 0 ∷ []) $ by ! (exits r v g (ws .1 .0) (ws .1 .1 .0) (ws .1 .1 .1 .0) (ws .1 .1 .1 .1 .0) (ls .1 .1 .0) e₁ e₂ e₃ e₄ e₆ (handed _ _ _ _ _ _ _ _ _ _ _ (z .now) r told (made ∙ ap (λ (m : ℕ). map labelOf (take m (words-of ws)) ++ behind m (z .now)) is-n)))))))))))))))))))))))))))))))))))))))))))))))))))))
+          qed W ((‵ (flft κ₀ q₀) ⊛ ‵ (flft κ₁ q₁) ⊛ ‵ (flft κ₂ q₂) ⊛ ‵ (flft κ₃ q₃) ⊛ ‵ (flft κ₄ q₄) ⊛ ‵ (flft κ₅ q₅) ⊛ ‵ ftrue)
+          ∷ ‵ (owns (ShrSlice (named 0) κ₀ u8 ∷ MutSlice (named 1) κ₁ u64 ∷ MutSlice (named 2) κ₂ u64 ∷ MutSlice (named 3) κ₃ u64 ∷ MutSlice (named 4) κ₄ u64 ∷ MutSlice (named 5) κ₅ Entry ∷ []) a passed) ∷ []) ∵
+          enter ! C Λ (code N) (sv x ∷ sv y₁ ∷ sv y₂ ∷ sv y₃ ∷ sv y₄ ∷ sv z ∷ []) _ $
+          alloc1 ! (λ l₀. alloc1 ! (λ l₁. alloc1 ! (λ l₂. alloc1 ! (λ l₃. alloc1 ! (λ l₄. alloc1 ! (λ l₅. alloc1 ! (λ l₆. alloc1 ! (λ l₇. alloc1 ! (λ l₈. alloc1 ! (λ l₉. alloc1 ! (λ l₁₀. alloc1 ! (λ l₁₁. alloc1 ! (λ l₁₂. alloc1 ! (λ l₁₃. alloc1 ! (λ l₁₄. alloc1 ! (λ l₁₅. alloc1 ! (λ l₁₆. alloc1 ! (λ l₁₇. alloc1 ! (λ l₁₈. alloc1 ! (λ l₁₉. alloc1 ! (λ l₂₀. alloc1 ! (λ l₂₁. alloc1 ! (λ l₂₂. alloc1 ! (λ l₂₃. alloc1 ! (λ l₂₄. alloc1 ! (λ l₂₅. alloc0 ! $ params1 ! $
+          pass1 ! (init ! 48 refl (tt, (tt, (record { fits = x-room .0 }, tt)))) $ pass1 ! (init ! 46 refl (tt, (tt, (record { fits = y₁-room .0 }, tt)))) $ pass1 ! (init ! 44 refl (tt, (tt, (record { fits = y₂-room .0 }, tt)))) $ pass1 ! (init ! 42 refl (tt, (tt, (record { fits = y₃-room .0 }, tt)))) $ pass1 ! (init ! 40 refl (tt, (tt, (record { fits = y₄-room .0 }, tt)))) $ pass1 ! (init ! 38 refl (tt, (tt, (record { fits = z-room .0 }, tt)))) $ pass0 ! $
+          -- [_25; …; _0; …; the tokens; what the parameters own]
+          assigns ! (rep ! N (lit ! tt)) (from ! (stop !)) (init ! 36 refl (repeat-typed 𝓤 H A W u64 (uint-lawful 𝓤 H A W w64) N 0 (vint w64 0) zero-is)) $
+          assigns ! (of-opd ! (load ! (from ! (fld ! refl (stop !))) (look-in ! 38 (sub ! 1 refl (whole !))))) (from ! (stop !)) (init ! 34 refl (tt, record { fits = z-room .0 })) $
+          assigns ! (addr ! (from ! (fld ! refl (hop ! (look-in ! 46 (sub ! 0 refl (whole !))) (stop !))))) (from ! (stop !)) (init ! 28 refl (tt, tt)) $
+          assigns ! (agg ! (and-then ! (load ! (from ! (stop !)) (look ! 28 refl)) (and-then ! (load ! (from ! (fld ! refl (stop !))) (look-in ! 46 (sub ! 1 refl (whole !)))) (no-more !)))) (from ! (stop !)) (init ! 26 refl (tt, (tt, (record { fits = y₁-room .0 }, tt)))) $
+          assigns ! (addr ! (from ! (fld ! refl (hop ! (look-in ! 44 (sub ! 0 refl (whole !))) (stop !))))) (from ! (stop !)) (init ! 24 refl (tt, tt)) $
+          assigns ! (agg ! (and-then ! (load ! (from ! (stop !)) (look ! 24 refl)) (and-then ! (load ! (from ! (fld ! refl (stop !))) (look-in ! 44 (sub ! 1 refl (whole !)))) (no-more !)))) (from ! (stop !)) (init ! 22 refl (tt, (tt, (record { fits = y₂-room .0 }, tt)))) $
+          assigns ! (addr ! (from ! (fld ! refl (hop ! (look-in ! 42 (sub ! 0 refl (whole !))) (stop !))))) (from ! (stop !)) (init ! 20 refl (tt, tt)) $
+          assigns ! (agg ! (and-then ! (load ! (from ! (stop !)) (look ! 20 refl)) (and-then ! (load ! (from ! (fld ! refl (stop !))) (look-in ! 42 (sub ! 1 refl (whole !)))) (no-more !)))) (from ! (stop !)) (init ! 18 refl (tt, (tt, (record { fits = y₃-room .0 }, tt)))) $
+          assigns ! (addr ! (from ! (fld ! refl (hop ! (look-in ! 40 (sub ! 0 refl (whole !))) (stop !))))) (from ! (stop !)) (init ! 16 refl (tt, tt)) $
+          assigns ! (agg ! (and-then ! (load ! (from ! (stop !)) (look ! 16 refl)) (and-then ! (load ! (from ! (fld ! refl (stop !))) (look-in ! 40 (sub ! 1 refl (whole !)))) (no-more !)))) (from ! (stop !)) (init ! 14 refl (tt, (tt, (record { fits = y₄-room .0 }, tt)))) $
+          assigns ! (addr ! (from ! (stop !))) (from ! (stop !)) (init ! 12 refl (tt, tt)) $
+          assigns ! (agg ! (and-then ! (load ! (from ! (stop !)) (look ! 12 refl)) (and-then ! (big ! N-fits) (no-more !)))) (from ! (stop !)) (init ! 10 refl (tt, (tt, (N-fits, tt)))) $
+          rewrite ! 10 (λ (m : ℕ). ‵ (fat fullShare (sliceTy wordRef) l₂₀ 0 (sliceVal (l₇, 0) m))) (sym blank-count) refl $
+          -- what the parameters own, and the tokens; what text owns is had twice
+          move ! (53 ∷ []) $ fsplit ! $ move ! (1 ∷ []) $ fsplit ! $ move ! (1 ∷ []) $ fsplit ! $ move ! (1 ∷ []) $ fsplit ! $ move ! (1 ∷ []) $ fsplit ! $ move ! (1 ∷ []) $ fsplit ! $ move ! (59 ∷ []) $ split ! $ move ! (1 ∷ []) $ split ! $ move ! (1 ∷ []) $ split ! $ move ! (1 ∷ []) $ split ! $ move ! (1 ∷ []) $ split ! $ move ! (1 ∷ []) $ split ! $ move ! (13 ∷ []) $ use1 W (‵ X ⊛ ‵ X) (shr-slice-copy 𝓤 H A W (named 0) κ₀ u8 .twice x (sv x ∷ [])) $ split ! $
+          -- the array is lent for the call
+          move ! (51 ∷ []) $ owned ! u64 (Is u64) (uint-makes 𝓤 H A W w64) 0 (vint w64 0 ∷ []) zero-is $ use2 W (‵ (cells (mem-of u64) blank l₇ 0)) (in-cells 𝓤 H A W u64 tt (uint-copy 𝓤 H A W w64) N l₇ 0 (vint w64 0)) $ lft-new ! tt (λ α. move ! (1 ∷ []) $ use1 W (later (some (λ (γ : GName). ‵ (MutSlice (named 5) (α ∷ []) u64 .own (scratch γ l₇ blank) (sliceVal (l₇, 0) (length blank) ∷ [])) ⊛ ‵ (flent (α ∷ []) (Held u64 (length blank) l₇ 0 γ))))) (lends-slice 𝓤 H A W u64 (named 5) (α ∷ []) blank l₇ 0 zeros-room) $ await ! tt $ pick ! (λ γ. split ! $
+          nothing ! $ owned ! usize (Is usize) (uint-makes 𝓤 H A W w64) (length (z .now)) _ (refl, z-room .0) $ fjoin ! $ move ! (1 ∷ 0 ∷ []) $ fjoin ! $ move ! (14 ∷ 0 ∷ []) $ fjoin ! $ move ! (14 ∷ 0 ∷ []) $ fjoin ! $ move ! (14 ∷ 0 ∷ []) $ fjoin ! $ move ! (14 ∷ 0 ∷ []) $ fjoin ! $ move ! (3 ∷ 0 ∷ []) $ fjoin ! $
+          nothing ! $ move ! (3 ∷ 0 ∷ []) $ join ! $ move ! (6 ∷ 0 ∷ []) $ join ! $ move ! (6 ∷ 0 ∷ []) $ join ! $ move ! (6 ∷ 0 ∷ []) $ join ! $ move ! (6 ∷ 0 ∷ []) $ join ! $ move ! (6 ∷ 0 ∷ []) $ join ! $ use2 W (raw (ReadWords 𝓤 H A mem run .pre (to-words α γ l₇))) (asks-words α γ l₇) $
+          calls-at ! fm (ReadWords 𝓤 H A mem run) known-words (to-words α γ l₇) (and-then ! (load ! (from ! (stop !)) (look ! 54 refl)) (and-then ! (load ! (from ! (stop !)) (look ! 33 refl)) (and-then ! (load ! (from ! (stop !)) (look ! 29 refl)) (and-then ! (load ! (from ! (stop !)) (look ! 25 refl)) (and-then ! (load ! (from ! (stop !)) (look ! 21 refl)) (and-then ! (load ! (from ! (stop !)) (look ! 17 refl)) (and-then ! (load ! (from ! (stop !)) (look ! 41 refl)) (no-more !)))))))) (λ v.
+          use1 W (later (some (λ (r : Reading). (Tokens α ⊛ ‵ (Answer .own r (v ∷ []))) ⊛ raw (ensured 𝓤 H A read-words.ended (read-words.clauses 𝓤 H A mem run) (κs-words α) (a-words γ l₇) tt r)))) (id⊢ 𝓤 _) $ await ! tt $ pick ! (λ r. split ! $ move ! (1 ∷ []) $ use1 W (some (λ (ws : LastWords). ‵ (lasts read-words.ended (κs-words α) (a-words γ l₇) ws) ⊛ raw (fact 𝓤 (Told ws r)))) (id⊢ 𝓤 _) $ pick ! (λ ws. split ! $ move ! (1 ∷ []) $ heard ! (Told ws r) (λ told.
+          -- the last lists, and that each is as long as it was
+          fsplit ! $ drop ! $ fsplit ! $ fsplit ! $ move ! (1 ∷ []) $ feqL ! (λ e₁. move ! (1 ∷ []) $ fsplit ! $ fsplit ! $ move ! (1 ∷ []) $ feqL ! (λ e₂. move ! (1 ∷ []) $ fsplit ! $ fsplit ! $ move ! (1 ∷ []) $ feqL ! (λ e₃. move ! (1 ∷ []) $ fsplit ! $ fsplit ! $ move ! (1 ∷ []) $ feqL ! (λ e₄. move ! (1 ∷ []) $ fsplit ! $ fsplit ! $ move ! (1 ∷ []) $ feqL ! (λ e₅.
+          move ! (6 ∷ []) $ split ! $ move ! (1 ∷ []) $ peeks ! Answer (Is Answer) (shows 𝓤 H A Answer) r (v ∷ []) (λ g. drop ! $
+          land ! (from ! (stop !)) (init ! 45 refl (answer-typed 𝓤 H A W r v g)) $
+          -- the call's lifetime is ended, and the array is back
+          split ! $ move ! (1 ∷ []) $ split ! $ move ! (1 ∷ []) $ split ! $ move ! (1 ∷ []) $ split ! $ move ! (1 ∷ []) $ split ! $ move ! (1 ∷ []) $ split ! $ lft-end ! tt $ move ! (0 ∷ 13 ∷ 7 ∷ []) $ use3 W (later (‵ (Arr (mem-of u64) (length blank) .lies (words-of ws) l₇ 0))) (slice-back 𝓤 H A W u64 (α ∷ []) γ (words-of ws) (length blank) l₇ 0) $ await ! tt $ fsplit ! $ drop ! $
+          -- how many labels there are
+          use0 W (raw (LabelCount 𝓤 H A mem run .pre (to-count r v))) (asks-count r v g) $
+          calls-at ! fm (LabelCount 𝓤 H A mem run) known-count (to-count r v) (and-then ! (load ! (from ! (stop !)) (look ! 50 refl)) (no-more !)) (λ u.
+          use1 W (later (some (λ (n : ℕ). (‵ ftrue ⊛ ‵ (usize .own n (u ∷ []))) ⊛ raw (ensured 𝓤 H A label-count.ended (label-count.clauses 𝓤 H A mem run) tt (r, tt) tt n)))) (id⊢ 𝓤 _) $ await ! tt $ pick ! (λ n. split ! $ move ! (1 ∷ []) $ use1 W (raw (fact 𝓤 (n ≡ labelCount r))) (count-told 𝓤 H A mem run r n) $ heard ! (n ≡ labelCount r) (λ is-n. split ! $ drop ! $
+          facts ! usize (Is usize) (shows 𝓤 H A usize) n (u ∷ []) (λ g′.
+          land ! (from ! (stop !)) (init ! 47 refl (uint-lawful 𝓤 H A W w64 .typed n _ g′ .0)) $
+          rewrite ! 47 (λ (c : Val). ‵ (fat fullShare word l₁₀ 0 c)) (ap only (g′ .0)) refl $
+          assigns ! (addr ! (from ! (stop !))) (from ! (stop !)) (init ! 23 refl (tt, tt)) $
+          assigns ! (agg ! (and-then ! (load ! (from ! (stop !)) (look ! 23 refl)) (and-then ! (big ! N-fits) (no-more !)))) (from ! (stop !)) (init ! 21 refl (tt, (tt, (N-fits, tt)))) $
+          rewrite ! 21 (λ (m : ℕ). ‵ (fat fullShare (sliceTy (tyRef erased imm word)) l₂₃ 0 (sliceVal (l₇, 0) m))) (sym (same-count ws e₅)) refl $
+          assigns ! (addr ! (from ! (fld ! refl (hop ! (look-in ! 54 (sub ! 0 refl (whole !))) (stop !))))) (from ! (stop !)) (init ! 19 refl (tt, tt)) $
+          assigns ! (agg ! (and-then ! (load ! (from ! (stop !)) (look ! 19 refl)) (and-then ! (load ! (from ! (fld ! refl (stop !))) (look-in ! 54 (sub ! 1 refl (whole !)))) (no-more !)))) (from ! (stop !)) (init ! 17 refl (tt, (tt, (record { fits = z-room .0 }, tt)))) $
+          -- the array is lent as `&`, and the labels are made of it
+          use1 W (‵ (row u64 fullShare (words-of ws) l₇ 0)) (whole-out 𝓤 H A W u64 (words-of ws) l₇ 0) $ feqI ! ℕ (length (words-of ws)) (length (words-of ws)) refl $ fjoin ! $ lft-new ! tt (λ β. move ! (1 ∷ []) $ use1 W (later (some (λ (δ : GName). ‵ (ShrSlice (named 0) (β ∷ []) u64 .own (scratch δ l₇ (words-of ws)) (sliceVal (l₇, 0) (length (words-of ws)) ∷ [])) ⊛ ‵ (flent (β ∷ []) (arr-parts (shares u64) (length (words-of ws)) .part fullShare (words-of ws) l₇ 0))))) (lends-shr-slice 𝓤 H A W u64 (named 0) (β ∷ []) fullShare (words-of ws) l₇ 0 (words-room ws e₅)) $ await ! tt $ pick ! (λ δ. split ! $
+          nothing ! $ move ! (18 ∷ 0 ∷ []) $ fjoin ! $ owned ! usize (Is usize) (uint-makes 𝓤 H A W w64) n _ (refl, g′ .1) $ fjoin ! $ move ! (1 ∷ 0 ∷ []) $ fjoin ! $ nothing ! $ move ! (16 ∷ 0 ∷ []) $ join ! $ move ! (3 ∷ 0 ∷ []) $ join ! $ use2 W (raw (PutLabels 𝓤 H A mem run .pre (to-put β δ l₇ n ws))) (asks-put β δ l₇ n ws (subst (Few ws) (sym is-n) (enough _ _ _ _ _ _ _ _ _ _ _ (z .now) r told))) $
+          calls-at ! fm (PutLabels 𝓤 H A mem run) known-put (to-put β δ l₇ n ws) (and-then ! (load ! (from ! (stop !)) (look ! 20 refl)) (and-then ! (load ! (from ! (stop !)) (look ! 46 refl)) (and-then ! (load ! (from ! (stop !)) (look ! 16 refl)) (no-more !)))) (λ w.
+          use1 W (later (some (λ (o : Unit {0}). ((‵ (flft (β ∷ []) fullShare) ⊛ ‵ (flft κ₅ q₅) ⊛ ‵ ftrue) ⊛ ‵ (Nothing .own o (w ∷ []))) ⊛ raw (ensured 𝓤 H A put-labels.ended (put-labels.clauses 𝓤 H A mem run) (β ∷ [], (κ₅, tt)) (a-put δ l₇ n ws) tt o)))) (id⊢ 𝓤 _) $ await ! tt $ pick ! (λ o. split ! $ move ! (1 ∷ []) $ use1 W (some (λ (ls : LastLabels). ‵ (lasts put-labels.ended (β ∷ [], (κ₅, tt)) (a-put δ l₇ n ws) ls) ⊛ raw (fact 𝓤 (ls .1 .1 .0 ≡ map labelOf (take n (words-of ws)) ++ behind n (z .now))))) (id⊢ 𝓤 _) $ pick ! (λ ls. split ! $ move ! (1 ∷ []) $ heard ! (ls .1 .1 .0 ≡ map labelOf (take n (words-of ws)) ++ behind n (z .now)) (λ made.
+          fsplit ! $ drop ! $ fsplit ! $ drop ! $ fsplit ! $ fsplit ! $ move ! (1 ∷ []) $ feqL ! (λ e₆.
+          move ! (2 ∷ []) $ split ! $ move ! (1 ∷ []) $ facts ! Nothing (Is Nothing) (shows 𝓤 H A Nothing) o (w ∷ []) (λ g″.
+          land ! (from ! (stop !)) (init ! 26 refl (nothing-lawful 𝓤 H A W .typed o _ g″ .0)) $
+          -- the array is room again
+          split ! $ move ! (1 ∷ []) $ split ! $ move ! (2 ∷ []) $ lft-end ! tt $ move ! (0 ∷ 5 ∷ []) $ lent-back ! tt $ use1 W (‵ (froom (tyArray word (length (words-of ws))) l₇ 0)) (to-room 𝓤 H A W u64 (length (words-of ws)) l₇ (words-of ws)) $ rewrite ! 0 (λ (m : ℕ). ‵ (froom (tyArray word m) l₇ 0)) (same-count ws e₅) refl $
+          assigns ! (of-opd ! (load ! (from ! (stop !)) (look ! 51 refl))) (from ! (stop !)) (init ! 68 refl (answer-typed 𝓤 H A W r v g)) $
+          returns ! (look ! 68 refl) $ forget ! 68 refl $ forget ! 66 refl $ forget ! 64 refl $ forget ! 62 refl $ forget ! 60 refl $ forget ! 58 refl $ forget ! 56 refl $ forget ! 53 refl $ forget ! 51 refl $ forget ! 49 refl $ forget ! 47 refl $ forget ! 45 refl $ forget ! 43 refl $ forget ! 41 refl $ forget ! 39 refl $ forget ! 37 refl $ forget ! 35 refl $ forget ! 33 refl $ forget ! 31 refl $ forget ! 29 refl $ forget ! 27 refl $ forget ! 25 refl $ forget ! 23 refl $ forget ! 21 refl $ forget ! 19 refl $
+          move ! (68 ∷ 69 ∷ []) $ free1 ! $ move ! (66 ∷ 67 ∷ []) $ free1 ! $ move ! (64 ∷ 65 ∷ []) $ free1 ! $ move ! (62 ∷ 63 ∷ []) $ free1 ! $ move ! (60 ∷ 61 ∷ []) $ free1 ! $ move ! (58 ∷ 59 ∷ []) $ free1 ! $
+          move ! (56 ∷ 57 ∷ []) $ free1 ! $ move ! (0 ∷ 55 ∷ []) $ free1 ! $ move ! (52 ∷ 53 ∷ []) $ free1 ! $ move ! (50 ∷ 51 ∷ []) $ free1 ! $ move ! (48 ∷ 49 ∷ []) $ free1 ! $ move ! (46 ∷ 47 ∷ []) $ free1 ! $
+          move ! (44 ∷ 45 ∷ []) $ free1 ! $ move ! (42 ∷ 43 ∷ []) $ free1 ! $ move ! (40 ∷ 41 ∷ []) $ free1 ! $ move ! (38 ∷ 39 ∷ []) $ free1 ! $ move ! (36 ∷ 37 ∷ []) $ free1 ! $ move ! (34 ∷ 35 ∷ []) $ free1 ! $
+          move ! (32 ∷ 33 ∷ []) $ free1 ! $ move ! (30 ∷ 31 ∷ []) $ free1 ! $ move ! (28 ∷ 29 ∷ []) $ free1 ! $ move ! (26 ∷ 27 ∷ []) $ free1 ! $ move ! (24 ∷ 25 ∷ []) $ free1 ! $ move ! (22 ∷ 23 ∷ []) $ free1 ! $
+          move ! (20 ∷ 21 ∷ []) $ free1 ! $ move ! (18 ∷ 19 ∷ []) $ free1 ! $ free0 ! $
+          keep ! (14 ∷ 13 ∷ 12 ∷ 11 ∷ 2 ∷ 15 ∷ 9 ∷ 8 ∷ 7 ∷ 6 ∷ 5 ∷ 0 ∷ []) $ by ! (exits r v g (ws .1 .0) (ws .1 .1 .0) (ws .1 .1 .1 .0) (ws .1 .1 .1 .1 .0) (ls .1 .1 .0) e₁ e₂ e₃ e₄ e₆ (handed _ _ _ _ _ _ _ _ _ _ _ (z .now) r told (made ∙ ap (λ (m : ℕ). map labelOf (take m (words-of ws)) ++ behind m (z .now)) is-n)))))))))))))))))))))))))))))))))))))))))))))))))))))
