@@ -19,7 +19,8 @@ fn label_count(reading: Reading) -> usize
     }
 }
 
-// Reads for a label table of `room` places, whose words go to scratch. Scratch has a place for each byte of a text that is read.
+// Reads for a label table of `room` places, whose words go to scratch, which has a place for each byte of a text that is
+// not refused by row 1.
 fn read_words(
     text: &[u8],
     tokens: &mut [u64],
@@ -76,7 +77,8 @@ fn read_large(
     reading
 }
 
-// Reads a text into the lent tables, or refuses it by rows 1 to 8. The labels are entries, and row 8's places for them are the slice's.
+// Reads a text into the lent tables, or refuses it by rows 1 to 8. The labels are entries, and row 8's places for them are
+// the slice's.
 pub fn read_entries(
     text: &[u8],
     tokens: &mut [u64],
