@@ -1,19 +1,19 @@
 -- A label table of more places than a text has bytes answers as one with a place for each byte, and the labels of the reading
 -- come back from their words. Assumes nothing.
-use mathlib.Core.Path.{_≡_, refl, sym, ap, subst, _∙_}
+use mathlib.Core.Path.{_≡_, sym, ap, subst, _∙_}
 use mathlib.Core.Logic.{_⊎_, inl, inr}
 use mathlib.Core.List.{List, [], _∷_, _++_, map}
 use Prim.Native.Nat.{ℕ, zero, suc, _≤_, _<_}
 use native.Mathlib.Omega.{arith}
-use lib.ListN.{length, take, drop, getD, length-map, length-append, List·getD-map}
+use lib.ListN.{length, take, drop, length-map, length-append, List·getD-map}
 use lib.Seq.{take-append-le, ext-getD, length-take-le, getD-take}
-use Rattle.answers.specs.Answers.{Answer, accepted, refused, refusal}
+use Rattle.answers.specs.Answers.{Answer, accepted}
 use Rattle.tokens.specs.declared.Token.{Token}
 use Rattle.lexer.specs.Lexing.{lexText}
 use Rattle.lexer.proofs.Theorems.{few}
 use Rattle.grammar.specs.Operands.{numbered}
 use Rattle.grammar.specs.Reading as G
-use Rattle.grammar.specs.Refusals.{Outcome, row₆, row₇, reads, Short, Answers, rows₁₋₅, rows₆₋₇, row₈, fits}
+use Rattle.grammar.specs.Refusals.{Outcome, reads, Short, Answers, rows₁₋₅, rows₆₋₇, row₈, fits}
 use Rattle.grammar.proofs.Theorems.{counts}
 use Rattle.entries.specs.declared.Label.{Label}
 use Rattle.entries.specs.Entries.{labelOf}
@@ -22,11 +22,11 @@ use Rattle.as2_pcode.specs.declared.Counts.{Counts}
 use Rattle.as2_pcode.specs.declared.Reading.{Reading}
 use Rattle.as2_pcode.specs.declared.Reading.the-variants as R
 use Rattle.as2_pcode.specs.Reading as A
-use Rattle.as2_pcode.proofs.Handed.{Lexed, lexed}
+use Rattle.as2_pcode.proofs.Handed.{lexed}
 use Rattle.as2_pcode.proofs.Kept.{numbered-length}
 use Rattle.as2_pcode.proofs.Theorems.{labels-handed}
 use Rattle.entry_reading.specs.Reading as E
-use Rattle.entry_reading.specs.Words.{Ample, placesFor, labelCount, Same, Filled, AcceptsWords, ReadsWords}
+use Rattle.entry_reading.specs.Words.{Ample, labelCount, ReadsWords}
 
 -- ---- row 8
 

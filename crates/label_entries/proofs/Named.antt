@@ -1,9 +1,8 @@
 -- Whether a label has a name, and how a search goes on by one label. Assumes nothing.
-use mathlib.Core.Path.{_≡_, refl, sym, _∙_, ap}
+use mathlib.Core.Path.{_≡_, sym, _∙_, ap}
 use mathlib.Core.Bool.{Bool, true, false, cond, _&&_}
-use mathlib.Core.List.{List, [], _∷_}
-use Prim.Native.Nat.{ℕ, suc, _+_, _≤_, _<_}
-use lib.Dec.{eqb, ltb}
+use mathlib.Core.List.{List}
+use Prim.Native.Nat.{ℕ, suc, _≤_, _<_}
 use lib.ListN.{length, drop, getD, drop-of-length-le}
 use lib.Seq.{drop-cons}
 use borrow.Author.Tests.{eq-eqb, lt-ltb, le-ltb}
@@ -11,7 +10,6 @@ use Rattle.tokens.specs.declared.Token.{Token}
 use Rattle.tokens.specs.Tokens.{tokenOf, rawText}
 use Rattle.entries.specs.declared.Label.{Label}
 use Rattle.grammar.specs.Reading.{sameName}
-use Rattle.label_entries.specs.declared.FoundLabel.{FoundLabel}
 use Rattle.label_entries.specs.declared.FoundLabel.the-variants.{At, Nothing}
 use Rattle.label_entries.specs.Labels.{noLabel, isNamed, foundFrom, foundAt}
 
