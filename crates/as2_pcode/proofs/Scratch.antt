@@ -31,9 +31,8 @@ module _ (text z l : List ℕ) (room : ℕ) (q : Parsing) (h : Parses text room 
   pub events-long : (n e : ℕ) → q ≡ P.Events n e → e ≡ length (take e l)
   events-long n e p = sym (length-take-le e l (parsed n e p .1 .1))
 
-  -- no more tokens than bytes
-  pub few : (n e top : ℕ) → q ≡ P.Events n e → length text ≤ top → length (take n z) ≤ top
-  few n e top p f = omega (arith, parsed n e p .0 .in-text, f)
+  pub few : (n e top : ℕ) → q ≡ P.Events n e → n ≤ top → length (take n z) ≤ top
+  few n e top p f = omega (arith, words-long n e p, f)
 
 module _ (text w e tokens : List ℕ) (g : Logged text (length tokens) w e) where
   abbrev n : ℕ

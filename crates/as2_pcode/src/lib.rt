@@ -150,9 +150,9 @@ fn read_log(
     )
 }
 
-// ---- scratch for the tables, by the number of tokens: a small text does not pay for the scratch of a large one
+// ---- scratch for the tables, by the number of tokens
 
-fn tokens_256(
+fn tables_256(
     text: &[u8],
     s: &[u64],
     log: &[u64],
@@ -192,7 +192,7 @@ fn tokens_256(
     )
 }
 
-fn tokens_2048(
+fn tables_1024(
     text: &[u8],
     s: &[u64],
     log: &[u64],
@@ -203,16 +203,16 @@ fn tokens_2048(
     labels: &mut [u64],
 ) -> Reading
     requires { ⌜ Logged (now text) (length (now tokens)) (now s) (now log) ⌝ }
-    requires { ⌜ length (now s) ≤ 2048 ⌝ }
+    requires { ⌜ length (now s) ≤ 1024 ⌝ }
     ensures { λ r. ⌜ Reads (now (text .entry)) (lent (now (tokens .entry)) (now (actions .entry)) (now (operands .entry)) (now (levels .entry)) (now (labels .entry))) (lent (now (tokens .exit)) (now (actions .exit)) (now (operands .exit)) (now (levels .exit)) (now (labels .exit))) r ⌝ }
 {
-    let mut acted = [0u64; 2052];
-    let mut given = [0u64; 2052];
-    let mut owners = [0u64; 2052];
-    let mut counts = [0u64; 2052];
-    let mut named = [0u64; 2052];
-    let mut sorted = [0u64; 2052];
-    let mut starts = [0u64; 2052];
+    let mut acted = [0u64; 1028];
+    let mut given = [0u64; 1028];
+    let mut owners = [0u64; 1028];
+    let mut counts = [0u64; 1028];
+    let mut named = [0u64; 1028];
+    let mut sorted = [0u64; 1028];
+    let mut starts = [0u64; 1028];
     read_log(
         text,
         s,
@@ -232,7 +232,47 @@ fn tokens_2048(
     )
 }
 
-fn tokens_16384(
+fn tables_4096(
+    text: &[u8],
+    s: &[u64],
+    log: &[u64],
+    tokens: &mut [u64],
+    actions: &mut [u64],
+    operands: &mut [u64],
+    levels: &mut [u64],
+    labels: &mut [u64],
+) -> Reading
+    requires { ⌜ Logged (now text) (length (now tokens)) (now s) (now log) ⌝ }
+    requires { ⌜ length (now s) ≤ 4096 ⌝ }
+    ensures { λ r. ⌜ Reads (now (text .entry)) (lent (now (tokens .entry)) (now (actions .entry)) (now (operands .entry)) (now (levels .entry)) (now (labels .entry))) (lent (now (tokens .exit)) (now (actions .exit)) (now (operands .exit)) (now (levels .exit)) (now (labels .exit))) r ⌝ }
+{
+    let mut acted = [0u64; 4100];
+    let mut given = [0u64; 4100];
+    let mut owners = [0u64; 4100];
+    let mut counts = [0u64; 4100];
+    let mut named = [0u64; 4100];
+    let mut sorted = [0u64; 4100];
+    let mut starts = [0u64; 4100];
+    read_log(
+        text,
+        s,
+        log,
+        &mut acted,
+        &mut given,
+        &mut owners,
+        &mut counts,
+        &mut named,
+        &mut sorted,
+        &mut starts,
+        tokens,
+        actions,
+        operands,
+        levels,
+        labels,
+    )
+}
+
+fn tables_16384(
     text: &[u8],
     s: &[u64],
     log: &[u64],
@@ -272,7 +312,7 @@ fn tokens_16384(
     )
 }
 
-fn tokens_65536(
+fn tables_65536(
     text: &[u8],
     s: &[u64],
     log: &[u64],
@@ -311,126 +351,10 @@ fn tokens_65536(
     )
 }
 
-// The tables of a text of up to 8,192 bytes.
-fn short_tables(
-    text: &[u8],
-    s: &[u64],
-    log: &[u64],
-    tokens: &mut [u64],
-    actions: &mut [u64],
-    operands: &mut [u64],
-    levels: &mut [u64],
-    labels: &mut [u64],
-) -> Reading
-    requires { ⌜ Logged (now text) (length (now tokens)) (now s) (now log) ⌝ }
-    requires { ⌜ length (now s) ≤ 8192 ⌝ }
-    ensures { λ r. ⌜ Reads (now (text .entry)) (lent (now (tokens .entry)) (now (actions .entry)) (now (operands .entry)) (now (levels .entry)) (now (labels .entry))) (lent (now (tokens .exit)) (now (actions .exit)) (now (operands .exit)) (now (levels .exit)) (now (labels .exit))) r ⌝ }
-{
-    if s.len() <= 256 {
-        return tokens_256(text, s, log, tokens, actions, operands, levels, labels);
-    }
-    if s.len() <= 2048 {
-        return tokens_2048(text, s, log, tokens, actions, operands, levels, labels);
-    }
-    tokens_16384(text, s, log, tokens, actions, operands, levels, labels)
-}
+// ---- scratch for the tokens and the log, by the length of the text: a small text does not pay for the scratch of a large one. The
+// tables of each size have a place for every fourth byte, which is ample for a patch; a text with more tokens takes the next size.
 
-// The tables of a longer one. They are apart so that the frame of a short text has no scratch of a long one in it.
-fn long_tables(
-    text: &[u8],
-    s: &[u64],
-    log: &[u64],
-    tokens: &mut [u64],
-    actions: &mut [u64],
-    operands: &mut [u64],
-    levels: &mut [u64],
-    labels: &mut [u64],
-) -> Reading
-    requires { ⌜ Logged (now text) (length (now tokens)) (now s) (now log) ⌝ }
-    ensures { λ r. ⌜ Reads (now (text .entry)) (lent (now (tokens .entry)) (now (actions .entry)) (now (operands .entry)) (now (levels .entry)) (now (labels .entry))) (lent (now (tokens .exit)) (now (actions .exit)) (now (operands .exit)) (now (levels .exit)) (now (labels .exit))) r ⌝ }
-{
-    if s.len() <= 16384 {
-        return tokens_16384(text, s, log, tokens, actions, operands, levels, labels);
-    }
-    tokens_65536(text, s, log, tokens, actions, operands, levels, labels)
-}
-
-// Reads a text of UTF-8 over scratch that has a place for each byte, for its tokens and for its log.
-fn read_short(
-    text: &[u8],
-    s: &mut [u64],
-    log: &mut [u64],
-    tokens: &mut [u64],
-    actions: &mut [u64],
-    operands: &mut [u64],
-    levels: &mut [u64],
-    labels: &mut [u64],
-) -> Reading
-    requires { ⌜ length (now text) ≤ 8192 ⌝ }
-    requires { ⌜ length (now text) ≤ validUpTo (now text) ⌝ }
-    requires { ⌜ (length (now text) ≤ length (now s)) × (length (now text) ≤ length (now log)) ⌝ }
-    ensures { λ r. ⌜ Reads (now (text .entry)) (lent (now (tokens .entry)) (now (actions .entry)) (now (operands .entry)) (now (levels .entry)) (now (labels .entry))) (lent (now (tokens .exit)) (now (actions .exit)) (now (operands .exit)) (now (levels .exit)) (now (labels .exit))) r ⌝ }
-{
-    let room = tokens.len();
-    let parsing = reading::parse_text(text, room, s, log);
-    match parsing {
-        Parsing::Refused(r) => Reading::Refused(r),
-        Parsing::Events(n, e) => {
-            let words = &s[..n];
-            let events = &log[..e];
-            short_tables(
-                text,
-                words,
-                events,
-                tokens,
-                actions,
-                operands,
-                levels,
-                labels,
-            )
-        }
-    }
-}
-
-fn read_long(
-    text: &[u8],
-    s: &mut [u64],
-    log: &mut [u64],
-    tokens: &mut [u64],
-    actions: &mut [u64],
-    operands: &mut [u64],
-    levels: &mut [u64],
-    labels: &mut [u64],
-) -> Reading
-    requires { ⌜ length (now text) ≤ 65536 ⌝ }
-    requires { ⌜ length (now text) ≤ validUpTo (now text) ⌝ }
-    requires { ⌜ (length (now text) ≤ length (now s)) × (length (now text) ≤ length (now log)) ⌝ }
-    ensures { λ r. ⌜ Reads (now (text .entry)) (lent (now (tokens .entry)) (now (actions .entry)) (now (operands .entry)) (now (levels .entry)) (now (labels .entry))) (lent (now (tokens .exit)) (now (actions .exit)) (now (operands .exit)) (now (levels .exit)) (now (labels .exit))) r ⌝ }
-{
-    let room = tokens.len();
-    let parsing = reading::parse_text(text, room, s, log);
-    match parsing {
-        Parsing::Refused(r) => Reading::Refused(r),
-        Parsing::Events(n, e) => {
-            let words = &s[..n];
-            let events = &log[..e];
-            long_tables(
-                text,
-                words,
-                events,
-                tokens,
-                actions,
-                operands,
-                levels,
-                labels,
-            )
-        }
-    }
-}
-
-// ---- scratch for the tokens and the log, by the length of the text
-
-fn text_1024(
+fn read_1024(
     text: &[u8],
     tokens: &mut [u64],
     actions: &mut [u64],
@@ -444,19 +368,31 @@ fn text_1024(
 {
     let mut s = [0u64; 1024];
     let mut log = [0u64; 1024];
-    read_short(
-        text,
-        &mut s,
-        &mut log,
-        tokens,
-        actions,
-        operands,
-        levels,
-        labels,
-    )
+    let room = tokens.len();
+    let parsing = reading::parse_text(text, room, &mut s, &mut log);
+    match parsing {
+        Parsing::Refused(r) => Reading::Refused(r),
+        Parsing::Events(n, e) => {
+            if 256 < n {
+                return read_4096(text, tokens, actions, operands, levels, labels);
+            }
+            let words = &s[..n];
+            let events = &log[..e];
+            tables_256(
+                text,
+                words,
+                events,
+                tokens,
+                actions,
+                operands,
+                levels,
+                labels,
+            )
+        }
+    }
 }
 
-fn text_8192(
+fn read_4096(
     text: &[u8],
     tokens: &mut [u64],
     actions: &mut [u64],
@@ -464,25 +400,37 @@ fn text_8192(
     levels: &mut [u64],
     labels: &mut [u64],
 ) -> Reading
-    requires { ⌜ length (now text) ≤ 8192 ⌝ }
+    requires { ⌜ length (now text) ≤ 4096 ⌝ }
     requires { ⌜ length (now text) ≤ validUpTo (now text) ⌝ }
     ensures { λ r. ⌜ Reads (now (text .entry)) (lent (now (tokens .entry)) (now (actions .entry)) (now (operands .entry)) (now (levels .entry)) (now (labels .entry))) (lent (now (tokens .exit)) (now (actions .exit)) (now (operands .exit)) (now (levels .exit)) (now (labels .exit))) r ⌝ }
 {
-    let mut s = [0u64; 8192];
-    let mut log = [0u64; 8192];
-    read_short(
-        text,
-        &mut s,
-        &mut log,
-        tokens,
-        actions,
-        operands,
-        levels,
-        labels,
-    )
+    let mut s = [0u64; 4096];
+    let mut log = [0u64; 4096];
+    let room = tokens.len();
+    let parsing = reading::parse_text(text, room, &mut s, &mut log);
+    match parsing {
+        Parsing::Refused(r) => Reading::Refused(r),
+        Parsing::Events(n, e) => {
+            if 1024 < n {
+                return read_16384(text, tokens, actions, operands, levels, labels);
+            }
+            let words = &s[..n];
+            let events = &log[..e];
+            tables_1024(
+                text,
+                words,
+                events,
+                tokens,
+                actions,
+                operands,
+                levels,
+                labels,
+            )
+        }
+    }
 }
 
-fn text_32768(
+fn read_16384(
     text: &[u8],
     tokens: &mut [u64],
     actions: &mut [u64],
@@ -490,25 +438,37 @@ fn text_32768(
     levels: &mut [u64],
     labels: &mut [u64],
 ) -> Reading
-    requires { ⌜ length (now text) ≤ 32768 ⌝ }
+    requires { ⌜ length (now text) ≤ 16384 ⌝ }
     requires { ⌜ length (now text) ≤ validUpTo (now text) ⌝ }
     ensures { λ r. ⌜ Reads (now (text .entry)) (lent (now (tokens .entry)) (now (actions .entry)) (now (operands .entry)) (now (levels .entry)) (now (labels .entry))) (lent (now (tokens .exit)) (now (actions .exit)) (now (operands .exit)) (now (levels .exit)) (now (labels .exit))) r ⌝ }
 {
-    let mut s = [0u64; 32768];
-    let mut log = [0u64; 32768];
-    read_long(
-        text,
-        &mut s,
-        &mut log,
-        tokens,
-        actions,
-        operands,
-        levels,
-        labels,
-    )
+    let mut s = [0u64; 16384];
+    let mut log = [0u64; 16384];
+    let room = tokens.len();
+    let parsing = reading::parse_text(text, room, &mut s, &mut log);
+    match parsing {
+        Parsing::Refused(r) => Reading::Refused(r),
+        Parsing::Events(n, e) => {
+            if 4096 < n {
+                return read_65536(text, tokens, actions, operands, levels, labels);
+            }
+            let words = &s[..n];
+            let events = &log[..e];
+            tables_4096(
+                text,
+                words,
+                events,
+                tokens,
+                actions,
+                operands,
+                levels,
+                labels,
+            )
+        }
+    }
 }
 
-fn text_65536(
+fn read_65536(
     text: &[u8],
     tokens: &mut [u64],
     actions: &mut [u64],
@@ -522,16 +482,37 @@ fn text_65536(
 {
     let mut s = [0u64; 65536];
     let mut log = [0u64; 65536];
-    read_long(
-        text,
-        &mut s,
-        &mut log,
-        tokens,
-        actions,
-        operands,
-        levels,
-        labels,
-    )
+    let room = tokens.len();
+    let parsing = reading::parse_text(text, room, &mut s, &mut log);
+    match parsing {
+        Parsing::Refused(r) => Reading::Refused(r),
+        Parsing::Events(n, e) => {
+            let words = &s[..n];
+            let events = &log[..e];
+            if 16384 < n {
+                return tables_65536(
+                    text,
+                    words,
+                    events,
+                    tokens,
+                    actions,
+                    operands,
+                    levels,
+                    labels,
+                );
+            }
+            tables_16384(
+                text,
+                words,
+                events,
+                tokens,
+                actions,
+                operands,
+                levels,
+                labels,
+            )
+        }
+    }
 }
 
 // Reads a text into the lent tables, or refuses it by rows 1 to 8.
@@ -553,13 +534,13 @@ pub fn read(
         return Reading::Refused(Refusal::NotUtf8(valid));
     }
     if text.len() <= 1024 {
-        return text_1024(text, tokens, actions, operands, levels, labels);
+        return read_1024(text, tokens, actions, operands, levels, labels);
     }
-    if text.len() <= 8192 {
-        return text_8192(text, tokens, actions, operands, levels, labels);
+    if text.len() <= 4096 {
+        return read_4096(text, tokens, actions, operands, levels, labels);
     }
-    if text.len() <= 32768 {
-        return text_32768(text, tokens, actions, operands, levels, labels);
+    if text.len() <= 16384 {
+        return read_16384(text, tokens, actions, operands, levels, labels);
     }
-    text_65536(text, tokens, actions, operands, levels, labels)
+    read_65536(text, tokens, actions, operands, levels, labels)
 }

@@ -1,0 +1,52 @@
+-- `as2_pcode::read_1024` meets its contract. Assumes nothing.
+use borrow.Author.Needs.{needs}
+use mathlib.Core.Path.{refl}
+use Rattle.as2_pcode.specs.Reading.{Reads}
+use Rattle.as2_pcode.proofs.Scratch as laws
+use Rattle.as2_pcode.proofs.read_1024.Statement.{statement}
+use Rattle.as2_pcode.proofs.read_1024.Tie as tie
+
+words-long : tie.Need-slice-aggregate-words
+words-long c = laws.words-long _ _ _ _ _ (c .before .before .before .before .before .before .before .parse-text .ensures) _ _ (c .before .before .before .parsing2 .given .1)
+
+events : tie.Need-array-share-prefix-log
+events c = laws.parsed _ _ _ _ _ (c .before .before .before .before .before .before .before .parse-text .ensures) _ _ (c .before .before .before .parsing2 .given .1) .1 .1
+
+events-long : tie.Need-slice-aggregate-events
+events-long c = laws.events-long _ _ _ _ _ (c .before .before .before .before .before .before .before .before .parse-text .ensures) _ _ (c .before .before .before .before .parsing2 .given .1)
+
+tables : tie.Need-tables-256-requires
+tables c κs = (laws.parsed _ _ _ _ _ (c .before .before .before .before .before .before .before .before .before .before .before .before .before .parse-text .ensures) _ _ (c .before .before .before .before .before .before .before .before .before .parsing2 .given .1) .0, laws.few _ _ _ _ _ (c .before .before .before .before .before .before .before .before .before .before .before .before .before .parse-text .ensures) _ _ 256 (c .before .before .before .before .before .before .before .before .before .parsing2 .given .1) (c .before .before .before .before .before .before .before .if1 .left))
+
+refused : tie.Need-returns-2
+unfolding Reads
+refused c = (laws.refused _ _ _ _ _ (c .before .before .before .before .before .parse-text .ensures) _ (c .before .parsing .given .1) _, refl)
+
+pub read-1024-spec : {M : Type 1} → statement M
+read-1024-spec =
+    tie.close
+    (tie.spec
+    (λ c. search needs)
+    (λ c. search needs)
+    (λ c κs. search needs)
+    (λ c. search needs)
+    (λ c. search needs)
+    (λ c κs. search needs)
+    (λ c. search needs)
+    (λ c. search needs)
+    (λ c. search needs)
+    (λ c. search needs)
+    (λ c. search needs)
+    (λ c. search needs)
+    (λ c. search needs)
+    words-long
+    events
+    events-long
+    tables
+    refused
+    (λ c. search needs)
+    (λ c. search needs)
+    (λ c. search needs)
+    (λ c. search needs)
+    (λ c. search needs)
+    (λ c. search needs))

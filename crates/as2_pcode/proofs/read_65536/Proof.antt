@@ -1,0 +1,58 @@
+-- `as2_pcode::read_65536` meets its contract. Assumes nothing.
+use borrow.Author.Needs.{needs}
+use mathlib.Core.Path.{refl}
+use Rattle.as2_pcode.specs.Reading.{Reads}
+use Rattle.as2_pcode.proofs.Scratch as laws
+use Rattle.as2_pcode.proofs.read_65536.Statement.{statement}
+use Rattle.as2_pcode.proofs.read_65536.Tie as tie
+
+words-long : tie.Need-slice-aggregate-words
+words-long c = laws.words-long _ _ _ _ _ (c .before .before .before .before .before .before .parse-text .ensures) _ _ (c .before .before .parsing2 .given .1)
+
+events : tie.Need-array-share-prefix-log
+events c = laws.parsed _ _ _ _ _ (c .before .before .before .before .before .before .parse-text .ensures) _ _ (c .before .before .parsing2 .given .1) .1 .1
+
+events-long : tie.Need-slice-aggregate-events
+events-long c = laws.events-long _ _ _ _ _ (c .before .before .before .before .before .before .before .parse-text .ensures) _ _ (c .before .before .before .parsing2 .given .1)
+
+words : tie.Need-array-share-prefix-s
+words c = laws.parsed _ _ _ _ _ (c .before .before .before .before .before .parse-text .ensures) _ _ (c .before .parsing2 .given .1) .1 .0
+
+large : tie.Need-tables-65536-requires
+large c κs = laws.parsed _ _ _ _ _ (c .before .before .before .before .before .before .before .before .before .before .before .before .before .parse-text .ensures) _ _ (c .before .before .before .before .before .before .before .before .before .parsing2 .given .1) .0
+
+tables : tie.Need-tables-16384-requires
+tables c κs = (laws.parsed _ _ _ _ _ (c .before .before .before .before .before .before .before .before .before .before .before .before .before .parse-text .ensures) _ _ (c .before .before .before .before .before .before .before .before .before .parsing2 .given .1) .0, laws.few _ _ _ _ _ (c .before .before .before .before .before .before .before .before .before .before .before .before .before .parse-text .ensures) _ _ 16384 (c .before .before .before .before .before .before .before .before .before .parsing2 .given .1) (c .before .before .before .before .before .if1 .left))
+
+refused : tie.Need-returns-2
+unfolding Reads
+refused c = (laws.refused _ _ _ _ _ (c .before .before .before .before .before .parse-text .ensures) _ (c .before .parsing .given .1) _, refl)
+
+pub read-65536-spec : {M : Type 1} → statement M
+read-65536-spec =
+    tie.close
+    (tie.spec
+    (λ c. search needs)
+    (λ c. search needs)
+    (λ c κs. search needs)
+    (λ c. search needs)
+    (λ c. search needs)
+    words
+    words-long
+    events
+    events-long
+    large
+    (λ c. search needs)
+    (λ c. search needs)
+    (λ c. search needs)
+    (λ c. search needs)
+    (λ c. search needs)
+    (λ c. search needs)
+    tables
+    refused
+    (λ c. search needs)
+    (λ c. search needs)
+    (λ c. search needs)
+    (λ c. search needs)
+    (λ c. search needs)
+    (λ c. search needs))
