@@ -2,31 +2,37 @@
 use mathlib.Core.Path.{_≡_, refl, ap, sym, _∙_}
 use mathlib.Core.Bool.{Bool, true, false, cond}
 use mathlib.Core.List.{List, [], _∷_, _++_}
-use Prim.Native.Nat.{ℕ, suc, _+_, _/_, _%_, _≤_, _<_}
+use Prim.Native.Nat.{ℕ, suc, _+_, _/_, _≤_, _<_}
 use native.Mathlib.Omega.{arith}
 use borrow.Author.Tests.{ne-eqb, eq-eqb}
 use lib.ListN.{length, getD, set}
-use Rattle.tokens.specs.declared.Token.{Token}
-use Rattle.tokens.specs.Tokens.{tokenOf, rawText}
 use Rattle.grammar.specs.Reading.{sameName}
-use Rattle.labels.specs.Labels.{nameOf, isSame, moved, firstSame, placed, merged}
+use Rattle.labels.specs.Labels.{nameOf, isNamed, isSame, moved, firstSame, placed, merged}
 
 module _ (text s : List ℕ) where
   -- ---- two labels
 
+  module _ (level : ℕ) (name : List ℕ) (v : ℕ) where
+    pub not-named : (level ≡ v / 1099511627776 → ⊥) → false ≡ isNamed text s level name v
+    not-named d = simp (ne-eqb _ _ d)
+
+    named : level ≡ v / 1099511627776 → isNamed text s level name v ≡ sameName name (nameOf text s v)
+    named e = simp (eq-eqb _ _ e)
+
+    pub compared : level ≡ v / 1099511627776 → {x : List ℕ} {r : Bool} → x ≡ nameOf text s v → r ≡ sameName name x → r ≡ isNamed text s level name v
+    compared e f g = g ∙ ap (sameName name) f ∙ sym (named e)
+
+  pub named-same : (w v : ℕ) {name : List ℕ} {r : Bool} → name ≡ nameOf text s w → r ≡ isNamed text s (w / 1099511627776) name v → r ≡ isSame text s w v
+  unfolding isSame
+  named-same w v e f = f ∙ ap (λ (x : List ℕ). isNamed text s (w / 1099511627776) x v) e
+
   pub other-level : (w v : ℕ) → (w / 1099511627776 ≡ v / 1099511627776 → ⊥) → false ≡ isSame text s w v
   unfolding isSame
-  other-level w v d = simp (ne-eqb _ _ d)
+  other-level w v d = not-named (w / 1099511627776) (nameOf text s w) v d
 
   pub one-level : (w v : ℕ) → w / 1099511627776 ≡ v / 1099511627776 → isSame text s w v ≡ sameName (nameOf text s w) (nameOf text s v)
   unfolding isSame
-  one-level w v e = simp (eq-eqb _ _ e)
-
-  pub compared : (w v : ℕ) → w / 1099511627776 ≡ v / 1099511627776 → {a b : Token} {x y : List ℕ} {r : Bool}
-      → a ≡ tokenOf (getD s (w % 1048576) 0) → b ≡ tokenOf (getD s (v % 1048576) 0)
-      → x ≡ rawText text a → y ≡ rawText text b → r ≡ sameName x y → r ≡ isSame text s w v
-  compared w v e ea eb ex ey er =
-      er ∙ (λ i. sameName ((ex ∙ ap (rawText text) ea) i) ((ey ∙ ap (rawText text) eb) i)) ∙ sym (one-level w v e)
+  one-level w v e = named (w / 1099511627776) (nameOf text s w) v e
 
   -- ---- one label among others
 

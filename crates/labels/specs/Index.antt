@@ -9,13 +9,21 @@ use lib.ListN.{length, take, getD, set}
 use Rattle.labels.specs.Labels.{nameOf, isSame, firstSame}
 use Rattle.labels.specs.declared.Found.{Found}
 
--- bytes as the digits of a number to the base of the seed, modulo a prime: two names agree for few seeds
+-- bytes as the digits of a number to the base of the seed, modulo 2^32
 abbrev pub hashOn : ℕ → ℕ → List ℕ → ℕ
 hashOn seed h [] = h
-hashOn seed h (b ∷ bs) = hashOn seed ((h * seed + b) % 4294967291) bs
+hashOn seed h (b ∷ bs) = hashOn seed ((h * seed + b) % 4294967296) bs
+
+-- the level before the bytes, and one multiplication more behind them, so that the last byte too reaches the high bits
+abbrev pub hashOf : ℕ → ℕ → List ℕ → ℕ
+hashOf seed level name = hashOn seed (level + 1) name * seed % 4294967296
+
+-- the high bits of the hash tell which of n buckets
+abbrev pub bucketIn : ℕ → ℕ → ℕ → List ℕ → ℕ
+bucketIn seed n level name = hashOf seed level name * n / 4294967296
 
 unfoldable pub bucketOf : List ℕ → List ℕ → ℕ → ℕ → ℕ → ℕ
-bucketOf text s seed n w = hashOn seed (w / 1099511627776 + 1) (nameOf text s w) % n
+bucketOf text s seed n w = bucketIn seed n (w / 1099511627776) (nameOf text s w)
 
 abbrev pub headOf : List ℕ → ℕ → ℕ
 headOf index b = getD index b 0 % 4294967296

@@ -12,9 +12,13 @@ use Rattle.grammar.specs.Reading.{sameName}
 abbrev pub nameOf : List ℕ → List ℕ → ℕ → List ℕ
 nameOf text s w = rawText text (tokenOf (getD s (w % 1048576) 0))
 
+-- whether the label v is of that level and name
+abbrev pub isNamed : List ℕ → List ℕ → ℕ → List ℕ → ℕ → Bool
+isNamed text s level name v = eqb level (v / 1099511627776) && sameName name (nameOf text s v)
+
 -- one level and one name
 unfoldable pub isSame : List ℕ → List ℕ → ℕ → ℕ → Bool
-isSame text s w v = eqb (w / 1099511627776) (v / 1099511627776) && sameName (nameOf text s w) (nameOf text s v)
+isSame text s w v = isNamed text s (w / 1099511627776) (nameOf text s w) v
 
 -- v at the position of w
 abbrev pub moved : ℕ → ℕ → ℕ

@@ -7,8 +7,8 @@ ghost use Prim.Native.Nat.{_-_, _≤_, _<_};
 ghost use mathlib.Core.List.{[]};
 ghost use lib.ListN.{length, take};
 ghost use Rattle.grammar.specs.Reading.{sameName};
-ghost use Rattle.labels.specs.Labels.{isSame, moved, Placed, Merged};
-ghost use Rattle.labels.specs.Index.{hashOn, bucketOf, linked, Chains, ChainsOf, Indexed, Finds};
+ghost use Rattle.labels.specs.Labels.{nameOf, isNamed, moved, Placed, Merged};
+ghost use Rattle.labels.specs.Index.{hashOf, bucketIn, linked, Chains, ChainsOf, Indexed, Finds};
 
 // Where a label stands, its bucket, and how many steps the walk took.
 struct Found {
@@ -41,40 +41,46 @@ pub fn same_bytes(a: &[u8], b: &[u8]) -> bool
     true
 }
 
-fn same_label(text: &[u8], s: &[u64], w: u64, v: u64) -> bool
-    ensures { λ r. ⌜ r ≡ isSame (now (text .entry)) (now (s .entry)) w v ⌝ }
-{
-    if w / 1099511627776 != v / 1099511627776 {
-        return false;
-    }
-    let a = token_in(s, (w % 1048576) as usize);
-    let b = token_in(s, (v % 1048576) as usize);
-    same_bytes(raw_text(text, a), raw_text(text, b))
-}
-
-// The hash of a name, from that of its level on.
-fn hash_on(seed: u32, from: u64, name: &[u8]) -> u64
-    requires { ⌜ from < 4294967291 ⌝ }
-    ensures { λ r. ⌜ r ≡ hashOn seed from (now (name .entry)) ⌝ }
-{
-    let base = seed as u64;
-    let mut h = from;
-    let mut i = 0;
-    while i < name.len() {
-        h = (h * base + name[i] as u64) % 4294967291;
-        i += 1;
-    }
-    h
-}
-
-// The bucket of a label: it goes by level and name alone.
-fn bucket(text: &[u8], s: &[u64], seed: u32, n: usize, w: u64) -> usize
-    requires { ⌜ 0 < n ⌝ }
-    ensures { λ r. ⌜ r ≡ bucketOf (now (text .entry)) (now (s .entry)) seed n w ⌝ }
+// The name of the label w.
+fn name_of<'a>(text: &'a [u8], s: &[u64], w: u64) -> &'a [u8]
+    ensures { λ r. ⌜ now r ≡ nameOf (now (text .entry)) (now (s .entry)) w ⌝ }
 {
     let t = token_in(s, (w % 1048576) as usize);
-    let h = hash_on(seed, w / 1099511627776 + 1, raw_text(text, t));
-    h as usize % n
+    raw_text(text, t)
+}
+
+// Whether the label v is of that level and name.
+fn is_named(text: &[u8], s: &[u64], level: u64, name: &[u8], v: u64) -> bool
+    ensures { λ r. ⌜ r ≡ isNamed (now (text .entry)) (now (s .entry)) level (now (name .entry)) v ⌝ }
+{
+    if level != v / 1099511627776 {
+        return false;
+    }
+    same_bytes(name, name_of(text, s, v))
+}
+
+// The hash of a level and a name. The multiplication at the end spreads names that differ in the last byte only.
+fn hash_of(seed: u32, level: u64, name: &[u8]) -> u64
+    requires { ⌜ level < 4294967295 ⌝ }
+    ensures { λ r. ⌜ r ≡ hashOf seed level (now (name .entry)) ⌝ }
+{
+    let base = seed as u64;
+    let mut h = level + 1;
+    let mut i = 0;
+    while i < name.len() {
+        h = (h * base + name[i] as u64) % 4294967296;
+        i += 1;
+    }
+    h * base % 4294967296
+}
+
+// The bucket of a label: it goes by level and name alone. The high bits of their hash tell it, with no division by n.
+fn bucket(seed: u32, n: usize, level: u64, name: &[u8]) -> usize
+    requires { ⌜ (n < 4294967296) × (level < 4294967295) ⌝ }
+    ensures { λ r. ⌜ r ≡ bucketIn seed n level (now (name .entry)) ⌝ }
+{
+    let h = hash_of(seed, level, name);
+    (h * n as u64 / 4294967296) as usize
 }
 
 // No chains.
@@ -106,15 +112,16 @@ fn rebuild(text: &[u8], s: &[u64], seed: u32, out: &[u64], m: usize, index: &mut
     clear(index);
     let mut j = 0;
     while j < m {
-        let b = bucket(text, s, seed, index.len(), out[j]);
+        let w = out[j];
+        let b = bucket(seed, index.len(), w / 1099511627776, name_of(text, s, w));
         link(index, b, j);
         j += 1;
     }
 }
 
-// Any seed is right: only speed hangs on it.
+// Any seed is right: only speed hangs on it. An odd one stays odd, so that no bits are lost.
 fn next_seed(seed: u32) -> u32 {
-    ((seed as u64 * 1664525 + 1013904223) % 4294967296) as u32
+    ((seed as u64 * 1664525 + 1013904222) % 4294967296) as u32
 }
 
 // Once walks have taken too many steps, the index anew with another seed: names made to meet in one bucket cost little more.
@@ -149,13 +156,15 @@ fn find_label(
     requires { ⌜ Indexed (now text) (now s) seed m (now out) (now index) ⌝ }
     ensures { λ r. ⌜ Finds (now (text .entry)) (now (s .entry)) seed w (take m (now (out .entry))) (length (now (index .entry))) r ⌝ }
 {
-    let b = bucket(text, s, seed, index.len(), w);
+    let level = w / 1099511627776;
+    let name = name_of(text, s, w);
+    let b = bucket(seed, index.len(), level, name);
     let mut steps = 0;
     let mut next = (index[b] % 4294967296) as usize;
     while 0 < next {
         let j = next - 1;
         steps += 1;
-        if same_label(text, s, w, out[j]) {
+        if is_named(text, s, level, name, out[j]) {
             return Found {
                 place: j,
                 bucket: b,

@@ -4,8 +4,8 @@ use mathlib.Core.Path.{_≡_, refl, subst, _∙_}
 use Prim.Native.Nat.{ℕ, _-_, _≤_, _<_}
 use native.Mathlib.Omega.{arith}
 use lib.ListN.{length, take, getD}
-use Rattle.labels.specs.Index.{ChainsOf}
-use Rattle.labels.proofs.Hashing.{bucket-inside}
+use Rattle.labels.specs.Index.{bucketOf, ChainsOf}
+use Rattle.labels.proofs.Hashing.{bucket-of, bucket-inside}
 use Rattle.labels.proofs.Searching.{chains-next}
 use Rattle.labels.proofs.rebuild.Statement.{statement}
 use Rattle.labels.proofs.rebuild.Tie as tie
@@ -16,29 +16,44 @@ Inv-loop text s seed out m index₀ j₀ index j = (j ≤ m) × ((length index �
 abbrev μ-loop : tie.MeasureT-loop
 μ-loop text s seed out m index₀ j₀ index j = m - j
 
+hashes : tie.Need-bucket-requires Inv-loop μ-loop
+hashes c κs =
+    let p = c .before .before .before .before .before .before .before .before .before .before .before .before in
+    (omega (arith, p .pre .1, c .before .before .before .loop .inv .1 .0, c .before .before .before .before .before .before .clear .kept .0), omega (arith, c .before .shared-slice-known4 .given (c .before .before .before .loop .j)))
+
+-- the bucket is that of the next word
+its-bucket : (c : tie.After-bucket Inv-loop μ-loop)
+    → let a = c .before .before .before .before .before .before .before .before .before .before .before .before .before .args in
+    let l = c .before .before .before .before .loop in c .bucket .result ≡ bucketOf (a .text .now) (a .s .now) (a .seed) (length (l .index)) (getD (a .out .now) (l .j) 0)
+its-bucket c =
+    let a = c .before .before .before .before .before .before .before .before .before .before .before .before .before .args in
+    let l = c .before .before .before .before .loop in
+    bucket-of (a .text .now) (a .s .now) (a .seed) (length (l .index)) (getD (a .out .now) (l .j) 0) (c .before .name-of .ensures) (c .bucket .ensures)
+
 links : tie.Need-link-requires Inv-loop μ-loop
 links c κs =
-    let p = c .before .before .before .before .before .before .before .before .before .before .before .before .before in
+    let p = c .before .before .before .before .before .before .before .before .before .before .before .before .before .before in
     let a = p .args in
-    let l = c .before .before .before .before .loop in
-    let same : length (l .index) ≡ length (a .index .now) = l .inv .1 .0 ∙ c .before .before .before .before .before .before .before .clear .kept .0 in
+    let l = c .before .before .before .before .before .loop in
+    let same : length (l .index) ≡ length (a .index .now) = l .inv .1 .0 ∙ c .before .before .before .before .before .before .before .before .clear .kept .0 in
     let room : 0 < length (l .index) = omega (arith, p .pre .1, same) in (
-      rw (c .before .bucket .ensures) (bucket-inside (a .text .now) (a .s .now) (a .seed) (length (l .index)) (getD (a .out .now) (l .j) 0) room),
-      (omega (arith, p .pre .1, same, c .before .before .before .loop-test .taken), omega (arith, p .pre .1, same)),
+      rw (its-bucket (c .before)) (bucket-inside (a .text .now) (a .s .now) (a .seed) (length (l .index)) (getD (a .out .now) (l .j) 0) room),
+      (omega (arith, p .pre .1, same, c .before .before .before .before .loop-test .taken), omega (arith, p .pre .1, same)),
     )
 
 again : tie.Need-loop-again Inv-loop μ-loop
 again c =
-    let p = c .before .before .before .before .before .before .before .before .before .before .before .before .before .before .before .before in
+    let p = c .before .before .before .before .before .before .before .before .before .before .before .before .before .before .before .before .before in
     let a = p .args in
-    let l = c .before .before .before .before .before .before .before .loop in
-    let same : length (l .index) ≡ length (a .index .now) = l .inv .1 .0 ∙ c .before .before .before .before .before .before .before .before .before .before .clear .kept .0 in
+    let l = c .before .before .before .before .before .before .before .before .loop in
+    let t = c .before .before .before .before .before .before .before .loop-test .taken in
+    let same : length (l .index) ≡ length (a .index .now) = l .inv .1 .0 ∙ c .before .before .before .before .before .before .before .before .before .before .before .clear .kept .0 in
     let q = c .before .before .link in (
-      omega (arith, c .before .before .before .before .before .before .loop-test .taken),
+      omega (arith, t),
       (
         q .kept .0 ∙ l .inv .1 .0,
-        chains-next (a .text .now) (a .s .now) (a .seed) (a .out .now) (l .j) (l .index) (omega (arith, c .before .before .before .before .before .before .loop-test .taken, p .pre .0)) (omega (arith, p .pre .1, same))
-            (omega (arith, p .pre .1, same, c .before .before .before .before .before .before .loop-test .taken)) (l .inv .1 .1) (c .before .before .before .before .bucket .result) (q .last .0) (q .ensures) (c .before .before .before .before .bucket .ensures),
+        chains-next (a .text .now) (a .s .now) (a .seed) (a .out .now) (l .j) (l .index) (omega (arith, t, p .pre .0)) (omega (arith, p .pre .1, same))
+            (omega (arith, p .pre .1, same, t)) (l .inv .1 .1) (c .before .before .before .before .bucket .result) (q .last .0) (q .ensures) (its-bucket (c .before .before .before .before)),
       ),
     )
 
@@ -59,7 +74,8 @@ rebuild-spec =
     (λ c. (omega arith, (refl, c .before .before .clear .ensures)))
     (λ c. search needs)
     (λ c. search needs)
-    (λ c κs. omega (arith, c .before .before .before .before .before .before .before .before .before .before .before .pre .1, c .before .before .loop .inv .1 .0, c .before .before .before .before .before .clear .kept .0))
+    (λ c κs. search needs)
+    hashes
     links
     (λ c. search needs)
     (λ c. search needs)
