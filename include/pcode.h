@@ -18,8 +18,9 @@
  * words and numbers are answered.
  *
  * What a call does: it writes what is told here and nothing else. It keeps no pointer, has no state and allocates nothing, so threads
- * may call at the same time with tables and out of their own. Stack: pcode_read 4.8 MB (2.1 MB for a text of up to 8,192 bytes),
- * pcode_lex 0.6 MB, the others less than 4 KB. A thread may have less unless it is given more; a main thread usually has 8 MB.
+ * may call at the same time with tables and out of their own. Stack: pcode_read 5.2 MB (0.2 MB for a text of up to 1,024 bytes,
+ * 0.7 MB up to 4,096), pcode_lex 0.6 MB, the others less than 4 KB. A thread may have less unless it is given more; a main thread
+ * usually has 8 MB.
  *
  * A call that can refuse returns 0, or the number of the refusal. A refusal changes no table. Its place goes to out[0] of pcode_lex and
  * pcode_read, the rest of out staying as it was; pcode_delta and pcode_value then write nothing.
@@ -106,8 +107,8 @@ void pcode_raw_text(const uint8_t *text, size_t text_len, size_t start, size_t e
  * a DefineFunction2 make use of it. 9 for CallFunction, CallMethod, ImplementsOp, InitArray, InitObject, NewMethod, StartDrag. */
 uint64_t pcode_delta(size_t action, size_t values, bool name_is_empty, int32_t out[1]);
 
-/* The value of a token, given by the number of its kind (pcode_token's out[0]; a number that no kind has is an Unknown's) and the bounds of
- * its raw text (out[3], out[4]). out[0]: the case, 0 null, 1 undefined, 2 string, 3 integer, 4 double, 5 true, 6 false, 7 register,
+/* The value of a token, given by the number of its kind (pcode_token's out[0]; for other numbers: 18 * 65,536 and above are an Unknown's;
+ * below, what a kind does not carry is passed over, and a register is taken modulo 256) and the bounds of its raw text (out[3], out[4]). out[0]: the case, 0 null, 1 undefined, 2 string, 3 integer, 4 double, 5 true, 6 false, 7 register,
  * 8 constant, 9 long (a number that is kept as it was typed). integer[0]: the number of an integer, a register or a constant, else 0.
  * out[1]: the IEEE 754 bits of a double, those of nan always 0x7FF8000000000000, else 0. out[2], out[3]: the bounds of the raw text of a
  * string or a long, else 0. 6 where there is no value, and where the bounds are out of order or past the text, whatever the kind. */

@@ -9,7 +9,7 @@
 //!   compare ORACLE reading MODE COUNT SEED        reading; MODE: bytes, words, grammar, mutate, slips, deep, labels
 //!   compare ORACLE reading exhaustive WHAT LENGTH  WHAT: an alphabet, headed (texts behind starts of actions), edits (of actions)
 //!   compare ORACLE reading telling                texts that document 01 names
-//!   compare ORACLE reading boundary               the sizes around 65,536 bytes, and as many entries as can be
+//!   compare ORACLE reading boundary               the sizes around 65,536 bytes and around those of scratch, as many entries as can be
 //!   compare ORACLE reading all COUNT SEED         all of these, deep with a fifth of COUNT
 //!   compare ORACLE sample FILE COUNT SEED         the oracle's answers in FILE1, FILE2, .. of 65,536 bytes, for crates/lex_replay
 //!   compare ORACLE sample-reading FILE COUNT SEED  the same for reading, for crates/read_replay, and what that program is to print
@@ -205,7 +205,7 @@ fn read(oracle: &str, mode: &str, args: &[&str]) -> u64 {
         ("deep", _) => reading::compare(oracle, &what, patches::deep(number(0), number(1))),
         ("labels", _) => reading::compare(oracle, &what, patches::labels(number(0), number(1))),
         ("telling", _) => reading::compare(oracle, &what, patches::telling().into_iter()),
-        ("boundary", _) => reading::compare(oracle, &what, texts::boundary().chain(patches::large())),
+        ("boundary", _) => reading::compare(oracle, &what, texts::boundary().chain(patches::large()).chain(patches::sizes())),
         _ => panic!("no such mode: {mode}"),
     }
 }

@@ -297,3 +297,20 @@ pub fn large() -> impl Iterator<Item = Vec<u8>> {
     let longer = |t: String| [t.clone(), t.clone() + "\n", t.clone() + &" ".repeat(65_537 - t.len())];
     all.into_iter().flat_map(longer).map(|t| t.into_bytes())
 }
+
+/// Texts around each size of scratch, in bytes and in tokens: labels, or values of a Push, behind blanks; read, and refused at the end.
+pub fn sizes() -> impl Iterator<Item = Vec<u8>> {
+    let dense = |tokens: usize| ["a:".repeat(tokens / 2) + &"\n".repeat(tokens % 2), "Push 1".to_string() + &",1".repeat(tokens / 2 - 1)];
+    let mut all = Vec::new();
+    for size in [1_024, 4_096, 16_384, 65_536] {
+        for bytes in [size - 1, size, size + 1] {
+            for tokens in [size / 4 - 1, size / 4, size / 4 + 1, size / 4 + 2, size / 2, size - 6] {
+                for text in dense(tokens) {
+                    let blanks = " ".repeat(bytes - 2 - text.len().min(bytes - 2));
+                    all.extend([blanks.clone() + &text, blanks + &text + " {"]);
+                }
+            }
+        }
+    }
+    all.into_iter().map(String::into_bytes)
+}
