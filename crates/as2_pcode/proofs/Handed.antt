@@ -39,8 +39,8 @@ use Rattle.reading.proofs.Ranges.{levels-below}
 use Rattle.reading.proofs.Counts.{tree-few}
 use Rattle.reading.proofs.Places.{text-all}
 use Rattle.reading.proofs.Tokens.{tokens-back}
-use Rattle.as2_pcode.specs.declared.Counts.{Counts}
-use Rattle.as2_pcode.specs.Reading.{Tables, Accepts}
+use Rattle.handover.specs.declared.Counts.{Counts}
+use Rattle.handover.specs.Reading.{Tables, Accepts}
 use Rattle.reading.proofs.Entries.{entry-count, level-count}
 use Rattle.as2_pcode.proofs.Kept.{mapped-handed, handed, every-map, every-weaker, numbered-length, numbered-low, LowOperand, operands-low, LowLabel, labels-low, LowAction, LevelLow, actions-low, Under, net-under, Numbered, opened-under, NetLow, nets-low, LowLevel, CountLow, levels-low}
 

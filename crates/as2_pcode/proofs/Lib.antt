@@ -1,5 +1,4 @@
 pub mod Rows
-pub mod Hand
 pub mod Scratch
 pub mod Kept
 pub mod Handed

@@ -13,8 +13,8 @@ use Rattle.entries.specs.declared.Level.{Level}
 use Rattle.entries.specs.declared.Label.{Label}
 use Rattle.entries.specs.Entries.{actionOf, operandOf, levelOf, labelOf}
 use Rattle.reading.specs.Tables.{actionEntries, operandEntry, levelEntries, labelEntry}
-use Rattle.as2_pcode.specs.declared.Counts.{Counts}
-use Rattle.as2_pcode.specs.Reading.{Tables, Accepts}
+use Rattle.handover.specs.declared.Counts.{Counts}
+use Rattle.handover.specs.Reading.{Tables, Accepts}
 use Rattle.as2_pcode.proofs.Handed as Handed
 
 module _ {text : List ℕ} {x y : Tables} {c : Counts} (a : Accepts text x y c) where

@@ -10,9 +10,9 @@ use types.Kit.{Given}
 use denote.RattleType.{RattleType}
 use denote.Laws.{Is, Makes}
 use denote.Enum.Laws as EL
-use Rattle.as2_pcode.specs.declared.Reading.{Reading}
-use Rattle.as2_pcode.proofs.Reading as D
-use Rattle.as2_pcode.proofs.Reading.Laws as D′
+use Rattle.handover.specs.declared.Reading.{Reading}
+use Rattle.handover.proofs.Reading as D
+use Rattle.handover.proofs.Reading.Laws as D′
 
 abbrev pub Answer : RattleType
 Answer = D.the-row

@@ -18,10 +18,10 @@ use Rattle.grammar.proofs.Theorems.{counts}
 use Rattle.entries.specs.declared.Label.{Label}
 use Rattle.entries.specs.Entries.{labelOf}
 use Rattle.reading.specs.Tables.{labelEntry, labelEntryWord, labelWords}
-use Rattle.as2_pcode.specs.declared.Counts.{Counts}
-use Rattle.as2_pcode.specs.declared.Reading.{Reading}
-use Rattle.as2_pcode.specs.declared.Reading.the-variants as R
-use Rattle.as2_pcode.specs.Reading as A
+use Rattle.handover.specs.declared.Counts.{Counts}
+use Rattle.handover.specs.declared.Reading.{Reading}
+use Rattle.handover.specs.declared.Reading.the-variants as R
+use Rattle.handover.specs.Reading as A
 use Rattle.as2_pcode.proofs.Handed.{lexed}
 use Rattle.as2_pcode.proofs.Kept.{numbered-length}
 use Rattle.as2_pcode.proofs.Theorems.{labels-handed}

@@ -47,8 +47,8 @@ use denote.Exit.{yes}
 use denote.Signature.{plain}
 use Rattle.entries.specs.declared.Label.{Label}
 use Rattle.entries.specs.Entries.{labelOf}
-use Rattle.as2_pcode.specs.declared.Reading.{Reading}
-use Rattle.as2_pcode.specs.Reading.{lent as numbers}
+use Rattle.handover.specs.declared.Reading.{Reading}
+use Rattle.handover.specs.Reading.{lent as numbers}
 use Rattle.label_entries.proofs.Entry.{Entry, entryTy}
 use Rattle.label_entries.proofs.put_labels as put-labels
 use Rattle.label_entries.proofs.put_labels.Symbol.{name as #label-entries·put-labels}

@@ -14,10 +14,10 @@ use Rattle.grammar.specs.Reading as G
 use Rattle.grammar.specs.Nets.{Net, Nets}
 use Rattle.grammar.specs.Refusals.{Answers}
 use Rattle.reading.specs.Tables.{front, actionWords, operandWords, levelWords, labelEntry}
-use Rattle.as2_pcode.specs.declared.Counts.{Counts}
-use Rattle.as2_pcode.specs.declared.Reading.{Reading}
-use Rattle.as2_pcode.specs.declared.Reading.the-variants as R
-use Rattle.as2_pcode.specs.Reading.{counted}
+use Rattle.handover.specs.declared.Counts.{Counts}
+use Rattle.handover.specs.declared.Reading.{Reading}
+use Rattle.handover.specs.declared.Reading.the-variants as R
+use Rattle.handover.specs.Reading.{counted}
 
 -- the five lent tables
 pub record Tables : Type 0 where

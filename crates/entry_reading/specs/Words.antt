@@ -13,10 +13,10 @@ use Rattle.grammar.specs.Reading as G
 use Rattle.grammar.specs.Nets.{Net, Nets}
 use Rattle.grammar.specs.Refusals.{Answers}
 use Rattle.reading.specs.Tables.{front, actionWords, operandWords, levelWords, labelEntry}
-use Rattle.as2_pcode.specs.declared.Counts.{Counts}
-use Rattle.as2_pcode.specs.declared.Reading.{Reading}
-use Rattle.as2_pcode.specs.declared.Reading.the-variants as R
-use Rattle.as2_pcode.specs.Reading.{Tables, counted}
+use Rattle.handover.specs.declared.Counts.{Counts}
+use Rattle.handover.specs.declared.Reading.{Reading}
+use Rattle.handover.specs.declared.Reading.the-variants as R
+use Rattle.handover.specs.Reading.{Tables, counted}
 
 -- a place for each byte of a text that is read
 abbrev pub Ample : ℕ → ℕ → Type 0

@@ -5,7 +5,7 @@ use label_entries::put_labels;
 ghost use mathlib.Core.Path.{_≡_};
 ghost use Prim.Native.Nat.{_≤_};
 ghost use lib.ListN.{length};
-ghost use Rattle.as2_pcode.specs.Reading.{lent as numbers};
+ghost use Rattle.handover.specs.Reading.{lent as numbers};
 ghost use Rattle.entry_reading.specs.Reading.{Reads, lent};
 ghost use Rattle.entry_reading.specs.Words.{Ample, ReadsWords, labelCount};
 

@@ -7,9 +7,9 @@ use lib.ListN.{set}
 use Rattle.actions.specs.Numbers.{numberOf}
 use Rattle.answers.specs.Answers.{Answer, accepted, refused}
 use Rattle.answers.specs.Answers as A
-use Rattle.as2_pcode.specs.declared.Reading.{Reading}
-use Rattle.as2_pcode.specs.declared.Reading.the-variants as R
-use Rattle.as2_pcode.specs.Reading.{Tables, Reads}
+use Rattle.handover.specs.declared.Reading.{Reading}
+use Rattle.handover.specs.declared.Reading.the-variants as R
+use Rattle.handover.specs.Reading.{Tables, Reads}
 use Rattle.entries.specs.declared.Action.{Action}
 use Rattle.entries.specs.declared.Operand.{Operand}
 use Rattle.entries.specs.declared.Block.{Block}

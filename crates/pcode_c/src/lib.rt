@@ -14,7 +14,7 @@ ghost use mathlib.Core.Path.{_≡_};
 ghost use lib.ListN.{length, set};
 ghost use Rattle.actions.specs.Numbers.{actionAt};
 ghost use Rattle.answers.specs.Answers.{numberOf, placeOf};
-ghost use Rattle.as2_pcode.specs.Reading.{lent};
+ghost use Rattle.handover.specs.Reading.{lent};
 ghost use Rattle.tokens.specs.Tokens.{span, tokenOf, within};
 ghost use Rattle.entries.specs.Entries.{actionOf, operandOf, levelOf, labelOf};
 ghost use Rattle.lexer.specs.Lexing.{counted, lexText, tableAfter};

@@ -19,9 +19,9 @@ use Rattle.grammar.specs.Operands.{numbered}
 use Rattle.grammar.specs.Reading as G
 use Rattle.grammar.specs.Refusals.{Outcome, row₆, row₇, reads, Short, Answers, rows₁₋₅, rows₆₋₇, row₈}
 use Rattle.grammar.proofs.Theorems.{ample}
-use Rattle.as2_pcode.specs.declared.Reading.{Reading}
-use Rattle.as2_pcode.specs.declared.Reading.the-variants as R
-use Rattle.as2_pcode.specs.Reading.{Tables, places, Reads}
+use Rattle.handover.specs.declared.Reading.{Reading}
+use Rattle.handover.specs.declared.Reading.the-variants as R
+use Rattle.handover.specs.Reading.{Tables, places, Reads}
 use Rattle.pcode_list.specs.Listed.{NeverShort}
 
 -- a number that says of no table that it is too short

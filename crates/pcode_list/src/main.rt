@@ -2,7 +2,7 @@
 use answers::Refusal;
 use as2_pcode::Reading;
 use libc::STDIN_FILENO;
-ghost use Rattle.as2_pcode.specs.Reading.{lent};
+ghost use Rattle.handover.specs.Reading.{lent};
 ghost use Rattle.pcode_list.specs.Listed.{Listed, NeverShort, Within};
 
 enum Input {

@@ -1,7 +1,7 @@
 -- `as2_pcode::read` meets its contract: rows 1 and 2, then the others. Assumes nothing.
 use borrow.Author.Needs.{needs}
 use mathlib.Core.Path.{refl}
-use Rattle.as2_pcode.specs.Reading.{Reads}
+use Rattle.handover.specs.Reading.{Reads}
 use Rattle.as2_pcode.proofs.Rows as laws
 use Rattle.as2_pcode.proofs.read.Statement.{statement}
 use Rattle.as2_pcode.proofs.read.Tie as tie

@@ -1,7 +1,7 @@
 -- `as2_pcode::read_65536` meets its contract. Assumes nothing.
 use borrow.Author.Needs.{needs}
 use mathlib.Core.Path.{refl}
-use Rattle.as2_pcode.specs.Reading.{Reads}
+use Rattle.handover.specs.Reading.{Reads}
 use Rattle.as2_pcode.proofs.Scratch as laws
 use Rattle.as2_pcode.proofs.read_65536.Statement.{statement}
 use Rattle.as2_pcode.proofs.read_65536.Tie as tie

@@ -2,7 +2,7 @@
 use borrow.Author.Needs.{needs}
 use native.Mathlib.Omega.{arith}
 use lib.ListN.{length}
-use Rattle.as2_pcode.proofs.Scratch as laws
+use Rattle.handover.proofs.Scratch as laws
 use Rattle.as2_pcode.proofs.tables_4096.Statement.{statement}
 use Rattle.as2_pcode.proofs.tables_4096.Tie as tie
 

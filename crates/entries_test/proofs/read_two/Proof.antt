@@ -49,7 +49,7 @@ use denote.Signature.{plain}
 use Rattle.entries.specs.declared.Label.{Label}
 use Rattle.entries.proofs.Label as L
 use Rattle.entries.proofs.Label.Laws as L′
-use Rattle.as2_pcode.specs.declared.Reading.{Reading}
+use Rattle.handover.specs.declared.Reading.{Reading}
 use Rattle.label_entries.specs.declared.FoundLabel.{FoundLabel}
 use Rattle.label_entries.proofs.FoundLabel as F
 use Rattle.label_entries.proofs.FoundLabel.Laws as F′

@@ -39,7 +39,7 @@ use denote.Triple.Walked.{says, goes-none-slice, goes-gave-slice, walkOf, Walks,
 use denote.Exit.{yes}
 use denote.Signature.{plain}
 use Rattle.entries.specs.declared.Label.{Label}
-use Rattle.as2_pcode.specs.declared.Reading.{Reading}
+use Rattle.handover.specs.declared.Reading.{Reading}
 use Rattle.label_entries.proofs.Entry.{Entry, entryTy}
 use Rattle.entry_reading.specs.Reading.{Reads, lent}
 use Rattle.entry_reading.proofs.Array.{big}

@@ -1,7 +1,7 @@
--- `as2_pcode::short_table` meets its contract. Assumes nothing.
-use Rattle.as2_pcode.proofs.Rows.{short₀, short₁, short₂, short₃, short₄}
-use Rattle.as2_pcode.proofs.short_table.Statement.{statement}
-use Rattle.as2_pcode.proofs.short_table.Tie as tie
+-- `handover::short_table` meets its contract. Assumes nothing.
+use Rattle.handover.proofs.Rows.{short₀, short₁, short₂, short₃, short₄}
+use Rattle.handover.proofs.short_table.Statement.{statement}
+use Rattle.handover.proofs.short_table.Tie as tie
 
 pub short-table-spec : {M : Type 1} → statement M
 short-table-spec =

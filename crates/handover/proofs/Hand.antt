@@ -16,10 +16,10 @@ use Rattle.tabling.specs.declared.State.{State}
 use Rattle.reading.specs.Tables.{front, labelEntryWord, labelWords}
 use Rattle.reading.specs.Told.{Filled, Fillable, Fills}
 use Rattle.reading.proofs.Filled.{actions-counted, operands-counted, levels-counted, labels-counted}
-use Rattle.as2_pcode.specs.declared.Reading.the-variants as R
-use Rattle.as2_pcode.specs.Reading.{Tables, places, filled, Reads, lent}
-use Rattle.as2_pcode.specs.Scratch.{lowestShort, Ready}
-use Rattle.as2_pcode.proofs.Rows.{Lowest, found, none}
+use Rattle.handover.specs.declared.Reading.the-variants as R
+use Rattle.handover.specs.Reading.{Tables, places, filled, Reads, lent}
+use Rattle.handover.specs.Scratch.{lowestShort, Ready}
+use Rattle.handover.proofs.Rows.{Lowest, found, none}
 
 module _ (text s acted given owners counts named sums starts tokens actions operands levels labels : List ℕ) (t : State)
     (r : Ready text s acted given owners counts named sums starts tokens t) where

@@ -13,9 +13,9 @@ use Rattle.grammar.specs.Reading as G
 use Rattle.grammar.specs.Nets.{Net, Nets}
 use Rattle.grammar.specs.Refusals.{Answers}
 use Rattle.reading.specs.Tables.{front, actionWords, operandWords, levelWords, labelWords}
-use Rattle.as2_pcode.specs.declared.Counts.{Counts}
-use Rattle.as2_pcode.specs.declared.Reading.{Reading}
-use Rattle.as2_pcode.specs.declared.Reading.the-variants as R
+use Rattle.handover.specs.declared.Counts.{Counts}
+use Rattle.handover.specs.declared.Reading.{Reading}
+use Rattle.handover.specs.declared.Reading.the-variants as R
 
 -- the five lent tables
 pub record Tables : Type 0 where

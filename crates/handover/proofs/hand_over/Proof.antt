@@ -1,9 +1,9 @@
--- `as2_pcode::hand_over` meets its contract. Assumes nothing.
+-- `handover::hand_over` meets its contract. Assumes nothing.
 use borrow.Author.Needs.{needs}
 use native.Mathlib.Omega.{arith}
-use Rattle.as2_pcode.proofs.Hand as laws
-use Rattle.as2_pcode.proofs.hand_over.Statement.{statement}
-use Rattle.as2_pcode.proofs.hand_over.Tie as tie
+use Rattle.handover.proofs.Hand as laws
+use Rattle.handover.proofs.hand_over.Statement.{statement}
+use Rattle.handover.proofs.hand_over.Tie as tie
 
 short : tie.Need-returns
 short c =

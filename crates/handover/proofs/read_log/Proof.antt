@@ -1,9 +1,9 @@
--- `as2_pcode::read_log` meets its contract. Assumes nothing.
+-- `handover::read_log` meets its contract. Assumes nothing.
 use borrow.Author.Needs.{needs}
 use native.Mathlib.Omega.{arith}
-use Rattle.as2_pcode.proofs.Scratch as laws
-use Rattle.as2_pcode.proofs.read_log.Statement.{statement}
-use Rattle.as2_pcode.proofs.read_log.Tie as tie
+use Rattle.handover.proofs.Scratch as laws
+use Rattle.handover.proofs.read_log.Statement.{statement}
+use Rattle.handover.proofs.read_log.Tie as tie
 
 arranging : tie.Need-arrange-requires
 arranging c κs = let p = c .before .before .before .before .before .before .before .before .before .before .before .before .before .before .before .before .before .before .before .before .before .before in laws.arrangeable _ _ _ (p .args .tokens .now) (p .pre .0) _ _ _ _ _ _ _ (p .pre .1)
