@@ -1,6 +1,5 @@
 -- The number of an action and the action of a number are each other's inverse; a rule on numbers is a rule on actions. Assumes nothing.
 use mathlib.Core.Path.{_≡_, refl, ap, sym, _∙_}
-use mathlib.Core.Bool.{true}
 use Prim.Native.Nat.{ℕ, _<_}
 use denote.Enum.Enum.{tag-below}
 use denote.Enum.Declared.{rowss}

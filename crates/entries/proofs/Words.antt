@@ -1,9 +1,7 @@
 -- Blocks and nets of a number, by what was tested; every entry comes back from its word. Assumes nothing.
 use mathlib.Core.Path.{_≡_, refl, sym, ap, subst, _∙_}
-use mathlib.Core.Bool.{true, false}
 use Prim.Native.Nat.{ℕ, zero, suc, _+_, _-_, _*_, _/_, _%_, _≤_, _<_}
 use native.Mathlib.Omega.{arith}
-use lib.Dec.{ltb}
 use lib.IntN.{pos, negsuc, negℤ, _-ℤ_, subℕ}
 use lib.Signed.{mag}
 use mir.Syntax.{w64}

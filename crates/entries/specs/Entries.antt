@@ -2,7 +2,7 @@
 use mathlib.Core.Bool.{cond}
 use Prim.Native.Nat.{ℕ, zero, suc, _+_, _-_, _*_, _/_, _%_}
 use lib.Dec.{ltb}
-use lib.IntN.{ℤ, pos, negsuc, subℕ}
+use lib.IntN.{pos, negsuc, subℕ}
 use Rattle.actions.specs.Numbers.{actionAt, numberOf}
 use Rattle.entries.specs.declared.Action.{Action}
 use Rattle.entries.specs.declared.Operand.{Operand}

@@ -2,7 +2,7 @@
 -- to `read_words`, comes back, and is lent to `put_labels`; all lent tables are given up to the callees for good.
 -- The walk assumes `Given` and the callees' contracts.
 use mathlib.Core.Path.{_≡_, refl, sym, _∙_, ap, subst}
-use Prim.Native.Nat.{ℕ, _≤_, _<_}
+use Prim.Native.Nat.{ℕ, _≤_}
 use native.Mathlib.Omega.{arith}
 use mathlib.Core.List.{[], _∷_, List, _++_, map}
 use lib.ListN.{length, replicate, length-replicate, take}

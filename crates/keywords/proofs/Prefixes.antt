@@ -1,17 +1,13 @@
 -- The number behind a prefix. Assumes nothing.
-use mathlib.Core.Path.{_≡_, refl, sym, _∙_}
-use mathlib.Core.Bool.{Bool, true, false, cond, _&&_, and-eq-true-iff, and-false}
-use mathlib.Core.List.{List, [], _∷_}
-use Prim.Native.Nat.{ℕ, _+_, _*_, _-_, _≤_, _<_}
-use native.Mathlib.Numerals.{add-one}
+use mathlib.Core.Path.{_≡_, _∙_}
+use mathlib.Core.Bool.{Bool, true, false, cond}
+use mathlib.Core.List.{List}
+use Prim.Native.Nat.{ℕ, _-_, _≤_, _<_}
 use native.Mathlib.Omega.{arith}
-use lib.Dec.{leb, ltb}
-use lib.ListN.{length, take, drop, getD, drop-of-length-le, length-drop, length-take}
-use lib.Seq.{drop-cons, take-all}
-use borrow.Author.Tests.{lt-ltb, le-ltb, le-leb, lt-leb, leb-true}
+use lib.ListN.{length, take, drop, length-drop, length-take}
+use lib.Seq.{take-all}
 use Rattle.words.specs.Words.{sameWord}
 use Rattle.words.proofs.Words.{same-differ}
-use Rattle.scanner.specs.Bytes.{isDigit}
 use Rattle.numbers.specs.Integers.{natural}
 use Rattle.numbers.specs.declared.Natural.{Natural}
 use Rattle.numbers.specs.declared.Natural.the-variants as N

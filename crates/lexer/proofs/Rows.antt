@@ -1,5 +1,5 @@
 -- Refusals 1 to 5 in their order. Assumes nothing.
-use mathlib.Core.Path.{_≡_, refl, ap, sym, _∙_}
+use mathlib.Core.Path.{_≡_, refl, ap, _∙_}
 use mathlib.Core.Bool.{true, false}
 use mathlib.Core.List.{List, _++_, map}
 use Prim.Native.Nat.{ℕ, _≤_, _<_}
@@ -13,7 +13,7 @@ use Rattle.answers.specs.declared.Refusal.the-variants as R
 use Rattle.tokens.specs.declared.Token.{Token}
 use Rattle.tokens.specs.Tokens.{wordOf}
 use Rattle.utf8.specs.Utf8.{validUpTo}
-use Rattle.lexer.specs.Lexing.{Handed, Lexes, answer, counted, fitting, lexFrom, lexText, tableAfter}
+use Rattle.lexer.specs.Lexing.{Handed, Lexes, counted, fitting, lexFrom, lexText}
 use Rattle.lexer.specs.Scratch.{LexesUtf8, Stored, wordsOf}
 use Rattle.lexer.specs.declared.Lexing.{Lexing}
 use Rattle.lexer.specs.declared.Lexing.the-variants as L

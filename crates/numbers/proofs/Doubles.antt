@@ -5,13 +5,13 @@ use mathlib.Core.List.{List}
 use Prim.Native.Nat.{ℕ, zero, suc, _+_, _-_, _≤_, _<_}
 use native.Mathlib.Nat.{zero-add}
 use native.Mathlib.Omega.{arith}
-use lib.Dec.{eqb, ltb}
+use lib.Dec.{ltb}
 use lib.IntN.{pos}
 use lib.Ieee.{fin}
 use lib.ListN.{length, take, drop, getD, length-drop}
 use lib.Seq.{take-all}
-use borrow.Author.Tests.{eq-eqb, ne-eqb, eqb-true, le-leb, lt-leb, lt-ltb, le-ltb}
-use Rattle.scanner.specs.Ends.{digitsEnd, pointEnd, signEnd}
+use borrow.Author.Tests.{eq-eqb, ne-eqb, le-leb, lt-leb, lt-ltb, le-ltb}
+use Rattle.scanner.specs.Ends.{signEnd}
 use Rattle.scanner.proofs.Runs.{inside}
 use Rattle.scanner.proofs.Ends.{Within, digits-within, point-within, sign-within}
 use Rattle.numbers.specs.Integers.{isMinus, hasMinus, minusEnd, isNatural, valueOf, upTo}

@@ -1,11 +1,11 @@
 -- Digits one after another, and whole numbers by what was tested. Assumes nothing.
 use mathlib.Core.Path.{_≡_, refl, sym, ap, subst, _∙_}
-use mathlib.Core.Bool.{Bool, true, false, cond, _&&_, and-eq-true-iff}
+use mathlib.Core.Bool.{Bool, true, false, cond, and-eq-true-iff}
 use mathlib.Core.List.{List, [], _∷_}
 use Prim.Native.Nat.{ℕ, zero, suc, _+_, _*_, _-_, _≤_, _<_}
 use native.Mathlib.Numerals.{add-one}
 use native.Mathlib.Omega.{arith}
-use lib.Dec.{eqb, leb, ltb}
+use lib.Dec.{eqb, leb}
 use lib.IntN.{pos, negsuc, negℤ, _-ℤ_}
 use lib.ListN.{length, take, drop, getD, drop-of-length-le, length-drop}
 use lib.Seq.{drop-cons, take-all}
@@ -17,10 +17,9 @@ use borrow.Author.Tests.{le-leb, lt-leb, leb-true, leb-false, lt-ltb, le-ltb, eq
 use Rattle.scanner.specs.Bytes.{isDigit}
 use Rattle.scanner.specs.Ends.{digitsEnd}
 use Rattle.scanner.proofs.Runs.{inside}
-use Rattle.numbers.specs.Integers.{withByte, valueFrom, valueOf, upTo, isNatural, natural, isMinus, hasMinus, minusEnd, largest, withSign, integer}
+use Rattle.numbers.specs.Integers.{withByte, valueFrom, valueOf, upTo, isNatural, natural, hasMinus, minusEnd, largest, withSign, integer}
 use Rattle.numbers.specs.declared.Natural.{Natural}
 use Rattle.numbers.specs.declared.Natural.the-variants as N
-use Rattle.numbers.specs.declared.Integer.{Integer}
 
 pub digit-range : (b : ℕ) → isDigit b ≡ true → (48 ≤ b) × (b ≤ 57)
 digit-range b e = let p = and-eq-true-iff (leb 48 b) (leb b 57) .0 e in (leb-true 48 b (p .0), leb-true b 57 (p .1))

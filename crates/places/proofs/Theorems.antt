@@ -7,7 +7,7 @@ use Prim.Native.Nat.{ℕ, zero, suc, _+_, _-_, _≤_, _<_}
 use native.Mathlib.Omega.{arith}
 use lib.Dec.{leb}
 use lib.ListN.{length}
-use borrow.Author.Tests.{leb-true, leb-false, le-leb, lt-leb}
+use borrow.Author.Tests.{leb-true, le-leb, lt-leb}
 use Rattle.utf8.specs.Utf8.{Range, holds, starts, rows, charIn, charLen, more, validFrom, validUpTo}
 use Rattle.places.specs.Places.{isTail, codePoints, endsAt, lineEnds, lineStart, placeIn, lineAt, columnAt}
 use Rattle.places.specs.Characters.{charactersFrom}

@@ -10,7 +10,7 @@ use Rattle.grammar.specs.Operands.{Lexeme, placeOf}
 use Rattle.grammar.specs.Grammar.{Part, body, try, catch, finally, Items, done, label, action, Blocks, no-blocks, block}
 use Rattle.grammar.specs.Reading.{Opened, Acted, ownActions, allActions, actionsInside, openedOf, openedIn, actedOf, actedIn}
 use Rattle.grammar.proofs.Events.{leading, waiting}
-use Rattle.grouping.specs.Grouping.{having, grouped}
+use Rattle.grouping.specs.Grouping.{having}
 use Rattle.tabling.specs.Tabling.{labelWord}
 use Rattle.reading.specs.Trees.{All, AllOf, AllIn, entry, givenOf, givenIn, namedOf, namedIn, IsLow}
 use Rattle.reading.proofs.Runs.{having-append, OfKey, having-other, swap, Every, every-append, runs, runs-append, runs-low}

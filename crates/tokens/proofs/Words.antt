@@ -1,17 +1,16 @@
 -- A token comes back from its table word. Assumes nothing.
 use mathlib.Core.Path.{_≡_, refl, ap, sym, _∙_}
 use mathlib.Core.Bool.{Bool, true, false, cond}
-use Prim.Native.Nat.{ℕ, _+_, _-_, _*_, _/_, _%_, _<_, _≤_}
+use Prim.Native.Nat.{ℕ, _+_, _-_, _/_, _%_, _<_, _≤_}
 use native.Mathlib.Omega.{arith}
 use lib.Dec.{eqb, ltb}
 use lib.ListN.{List·getD-eq-default}
 use borrow.Author.Tests.{ltb-true, ltb-false, ne-eqb}
 use Rattle.laws.proofs.Tabulate.{agree}
-use Rattle.actions.proofs.Numbers.{action-number, number-below}
+use Rattle.actions.proofs.Numbers.{action-number}
 use Rattle.tokens.specs.declared.TokenKind.{TokenKind}
 use Rattle.tokens.specs.declared.TokenKind.the-variants as K
 use Rattle.tokens.specs.declared.Span.{Span}
-use Rattle.tokens.specs.declared.Token.{Token}
 use Rattle.tokens.specs.Kinds.{_carrying_, codeOf, isKind, kinds, kindIn, kindNumber, kindOf}
 use Rattle.tokens.specs.Tokens.{span, tokenIn, tokenOf, wordOf}
 

@@ -4,7 +4,6 @@ use actions::action_number;
 use names::ActionName;
 ghost use mathlib.Core.Path.{_≡_};
 ghost use Prim.Native.Nat.{_<_, _≤_};
-ghost use lib.ListN.{length};
 ghost use Rattle.tokens.specs.Kinds.{kindNumber, kindOf};
 ghost use Rattle.tokens.specs.Tokens.{span, tokenIn, wordOf, tokenOf, within, rawText};
 

@@ -1,6 +1,6 @@
 -- `bench_texts::is_marked` ends: it counts up to the length. Assumes nothing.
 use borrow.Author.Needs.{needs}
-use Prim.Native.Nat.{_≤_, _-_}
+use Prim.Native.Nat.{_-_}
 use lib.ListN.{length}
 use Rattle.bench_texts.proofs.is_marked.Statement.{statement}
 use Rattle.bench_texts.proofs.is_marked.Tie as tie

@@ -2,7 +2,7 @@
 use borrow.Author.Needs.{needs}
 use mathlib.Core.Path.{refl}
 use Rattle.words.specs.Spellings.{bytes, spellings}
-use Rattle.words.specs.Tables.{Lent, cut}
+use Rattle.words.specs.Tables.{cut}
 use Rattle.lexer.proofs.lex_into.Statement.{statement}
 use Rattle.lexer.proofs.lex_into.Tie as tie
 

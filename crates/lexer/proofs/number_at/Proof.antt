@@ -1,7 +1,7 @@
 -- `lexer::number_at` meets its contract. Assumes nothing.
 use borrow.Author.Needs.{needs}
 use native.Mathlib.Omega.{arith}
-use Rattle.scanner.proofs.Ends.{Within, digits-within, point-within}
+use Rattle.scanner.proofs.Ends.{digits-within, point-within}
 use Rattle.lexer.proofs.Firsts as laws
 use Rattle.lexer.proofs.number_at.Statement.{statement}
 use Rattle.lexer.proofs.number_at.Tie as tie

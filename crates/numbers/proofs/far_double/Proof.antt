@@ -1,7 +1,6 @@
 -- `numbers::far_double` meets its contract. Assumes nothing.
 use borrow.Author.Needs.{needs}
-use mathlib.Core.Path.{_≡_, sym, ap, _∙_}
-use Prim.Native.Nat.{_+_}
+use mathlib.Core.Path.{ap, _∙_}
 use lib.IntN.{pos}
 use lib.Ieee.{fin}
 use Rattle.numbers.specs.declared.Double.the-variants as D

@@ -1,6 +1,6 @@
 -- `numbers::has_minus` meets its contract. Assumes nothing.
 use borrow.Author.Needs.{needs}
-use mathlib.Core.Path.{_≡_, sym, ap, _∙_}
+use mathlib.Core.Path.{ap}
 use lib.Dec.{eqb}
 use Rattle.numbers.proofs.has_minus.Statement.{statement}
 use Rattle.numbers.proofs.has_minus.Tie as tie

@@ -1,6 +1,6 @@
 -- `numbers::mantissa_end` meets its contract. Assumes nothing.
 use borrow.Author.Needs.{needs}
-use mathlib.Core.Path.{_≡_, sym, ap, _∙_}
+use mathlib.Core.Path.{ap, _∙_}
 use native.Mathlib.Omega.{arith}
 use Rattle.scanner.specs.Ends.{pointEnd}
 use Rattle.numbers.specs.Doubles.{mantissaEnd}

@@ -1,8 +1,8 @@
 -- `numbers::number_up_to` meets its contract. The invariant: the bytes that are left decide. Assumes nothing.
 use borrow.Author.Needs.{needs}
-use mathlib.Core.Path.{_≡_, refl, sym, ap, _∙_}
+use mathlib.Core.Path.{_≡_, refl, ap, _∙_}
 use native.Mathlib.Omega.{arith}
-use Prim.Native.Nat.{ℕ, _-_, _≤_}
+use Prim.Native.Nat.{_-_, _≤_}
 use lib.ListN.{length, drop}
 use Rattle.numbers.specs.Integers.{upTo, valueOf, valueFrom}
 use Rattle.numbers.proofs.Integers as laws

@@ -1,7 +1,7 @@
 -- `numbers::parse_natural` meets its contract. Assumes nothing.
 use borrow.Author.Needs.{needs}
 use borrow.Author.Tests.{not-true, not-false}
-use mathlib.Core.Path.{_≡_, sym, ap, _∙_}
+use mathlib.Core.Path.{sym, _∙_}
 use Rattle.numbers.proofs.Integers as laws
 use Rattle.numbers.proofs.parse_natural.Statement.{statement}
 use Rattle.numbers.proofs.parse_natural.Tie as tie

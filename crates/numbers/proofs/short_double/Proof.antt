@@ -1,7 +1,6 @@
 -- `numbers::short_double` meets its contract. Assumes nothing.
 use borrow.Author.Needs.{needs}
-use mathlib.Core.Path.{_≡_, sym, ap, _∙_}
-use native.Mathlib.Omega.{arith}
+use mathlib.Core.Path.{ap, _∙_}
 use Rattle.numbers.specs.declared.Double.the-variants as D
 use Rattle.numbers.specs.Doubles.{signed}
 use Rattle.numbers.proofs.Doubles as laws

@@ -1,6 +1,6 @@
 -- `numbers::whole_end` meets its contract. Assumes nothing.
 use borrow.Author.Needs.{needs}
-use mathlib.Core.Path.{_≡_, sym, ap, _∙_}
+use mathlib.Core.Path.{ap, _∙_}
 use Rattle.scanner.specs.Ends.{digitsEnd}
 use Rattle.numbers.specs.Doubles.{wholeEnd}
 use Rattle.numbers.proofs.whole_end.Statement.{statement}

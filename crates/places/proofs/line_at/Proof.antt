@@ -1,9 +1,8 @@
 -- `places::line_at` meets its contract: the line ends so far, and one. Assumes nothing.
 use borrow.Author.Needs.{needs}
-use mathlib.Core.Path.{_≡_, ap, sym, _∙_}
+use mathlib.Core.Path.{_≡_, ap, _∙_}
 use Prim.Native.Nat.{ℕ, _+_, _-_, _≤_}
 use native.Mathlib.Omega.{arith}
-use lib.ListN.{length}
 use Rattle.places.specs.Places.{lineEnds}
 use Rattle.places.proofs.Lines as laws
 use Rattle.places.proofs.line_at.Statement.{statement}

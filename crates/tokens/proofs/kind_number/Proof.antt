@@ -1,9 +1,8 @@
 -- `tokens::kind_number` meets its contract, arm by arm. Assumes nothing.
 use borrow.Author.Needs.{needs}
 use mathlib.Core.Path.{ap, sym, _∙_}
-use Prim.Native.Nat.{ℕ, _+_, _<_}
+use Prim.Native.Nat.{ℕ, _+_}
 use native.Mathlib.Omega.{arith}
-use Rattle.actions.specs.Numbers.{numberOf}
 use Rattle.actions.proofs.Numbers.{number-below}
 use Rattle.tokens.specs.Kinds.{kindNumber}
 use Rattle.tokens.proofs.kind_number.Statement.{statement}

@@ -3,7 +3,7 @@ use borrow.Author.Needs.{needs}
 use mathlib.Core.Path.{ap, sym, subst}
 use lib.ListN.{length}
 use Rattle.tokens.specs.declared.Span.{Span}
-use Rattle.tokens.specs.Tokens.{part, within}
+use Rattle.tokens.specs.Tokens.{part}
 use Rattle.tokens.proofs.Raw.{Inside, within-inside}
 use Rattle.tokens.proofs.raw_text.Statement.{statement}
 use Rattle.tokens.proofs.raw_text.Tie as tie

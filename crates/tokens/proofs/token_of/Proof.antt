@@ -1,7 +1,7 @@
 -- `tokens::token_of` meets its contract: a string's raw bounds are one byte in from each end. Assumes nothing.
 use borrow.Author.Needs.{needs}
 use borrow.Author.Tests.{eq-eqb, ne-eqb}
-use mathlib.Core.Path.{ap, _∙_}
+use mathlib.Core.Path.{ap}
 use Prim.Native.Nat.{ℕ, _+_, _/_, _%_}
 use native.Mathlib.Omega.{arith}
 use Rattle.tokens.specs.Tokens.{span}

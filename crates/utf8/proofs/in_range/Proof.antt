@@ -2,7 +2,6 @@
 use borrow.Author.Needs.{needs}
 use borrow.Author.Tests.{le-leb, lt-leb}
 use mathlib.Core.Path.{sym, _∙_}
-use native.Mathlib.Omega.{arith}
 use Rattle.utf8.specs.Utf8.{_to_}
 use Rattle.utf8.proofs.Starts as laws
 use Rattle.utf8.proofs.in_range.Statement.{statement}

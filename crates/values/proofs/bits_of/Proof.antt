@@ -1,6 +1,6 @@
 -- `values::bits_of` meets its contract. Assumes nothing.
 use mathlib.Core.Path.{_≡_, _∙_, sym, subst, ap, refl}
-use mathlib.Core.Bool.{true, false, not}
+use mathlib.Core.Bool.{false, not}
 use lib.Dec.{T}
 use lib.Ieee as Ieee
 use lib.Ieee.{Float, nan, inf, fin}

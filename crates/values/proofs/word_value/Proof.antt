@@ -1,6 +1,6 @@
 -- `values::word_value` meets its contract. Assumes nothing.
 use borrow.Author.Needs.{needs}
-use mathlib.Core.Path.{_≡_, sym, ap, _∙_}
+use mathlib.Core.Path.{ap, _∙_}
 use Rattle.answers.specs.Answers.{accepted}
 use Rattle.words.specs.Spellings.{bytes}
 use Rattle.values.specs.declared.PushValue.the-variants as P

@@ -2,7 +2,7 @@
 use borrow.Author.Needs.{needs}
 use mathlib.Core.Path.{refl}
 use Rattle.words.specs.Spellings.{bytes, spellings}
-use Rattle.words.specs.Tables.{Lent, cut}
+use Rattle.words.specs.Tables.{cut}
 use Rattle.words.proofs.find_action.Statement.{statement}
 use Rattle.words.proofs.find_action.Tie as tie
 
