@@ -1,5 +1,5 @@
 -- Names as a table holds them: their letters one name after another, and where each name starts. Only the contracts of
--- `find_between` and `entry` cite it, and what `find_action` and its callers ask of the tables that they are lent.
+-- `find_between` and `entry` cite it, and what `find_name` and its callers ask of the tables that they are lent.
 use mathlib.Core.Path.{_≡_}
 use mathlib.Core.Bool.{Bool, true, cond, _&&_}
 use mathlib.Core.List.{List, [], _∷_}

@@ -253,10 +253,3 @@ pub fn find_name(w: &[u8], letters: &[u8], starts: &[usize], firsts: &[usize]) -
     }
     100
 }
-
-// The same where no tables are at hand.
-pub fn find_action(w: &[u8]) -> usize
-    ensures { λ r. ⌜ r ≡ indexIn (now (w .entry)) spellings ⌝ }
-{
-    find_name(w, &LETTERS, &STARTS, &FIRSTS)
-}
