@@ -44,7 +44,7 @@ fn find_keyword(w: &[u8]) -> usize
     words::find_between(w, &LETTERS, &STARTS, 0, 6)
 }
 
-// A word with no number behind it.
+// A word that is neither a constant nor a register.
 fn named_kind(w: &[u8], letters: &[u8], starts: &[usize], firsts: &[usize]) -> TokenKind
     requires { ⌜ Lent (now letters) (now starts) (now firsts) ⌝ }
     ensures { λ r. ⌜ r ≡ named (now (w .entry)) ⌝ }

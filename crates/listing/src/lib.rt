@@ -28,13 +28,13 @@ fn first_is_empty(text: &[u8], tokens: &[u64], operands: &[u64], a: Action) -> b
     raw.len() == 0
 }
 
-pub fn print_name(a: ActionName) {
+fn print_name(a: ActionName) {
     let letters = words::LETTERS;
     print_text(words::spelling(&letters, a));
 }
 
 // The delta of an action that stands in a reading: its operands are its values.
-pub fn delta_in(text: &[u8], tokens: &[u64], operands: &[u64], a: Action) -> StackDelta
+fn delta_in(text: &[u8], tokens: &[u64], operands: &[u64], a: Action) -> StackDelta
     ensures { λ r. ⌜ answer r ≡ deltaAnswer (a .name) (a .count) (firstIsEmpty (now (text .entry)) (now (tokens .entry)) (now (operands .entry)) (a .first) (a .first + a .count)) ⌝ }
 {
     let name = a.name;
@@ -43,7 +43,7 @@ pub fn delta_in(text: &[u8], tokens: &[u64], operands: &[u64], a: Action) -> Sta
 }
 
 // Of an action that stands in a reading, only an undetermined delta is refused.
-pub fn print_delta(d: StackDelta) {
+fn print_delta(d: StackDelta) {
     match d {
         StackDelta::Is(n) => print_signed(n),
         StackDelta::Refused(_) => print_text(b"?"),
@@ -51,7 +51,7 @@ pub fn print_delta(d: StackDelta) {
 }
 
 // Level, name, delta.
-pub fn print_action(text: &[u8], tokens: &[u64], operands: &[u64], a: Action) {
+fn print_action(text: &[u8], tokens: &[u64], operands: &[u64], a: Action) {
     let name = a.name;
     print_number(a.level as u64);
     print_text(b" ");
@@ -61,7 +61,7 @@ pub fn print_action(text: &[u8], tokens: &[u64], operands: &[u64], a: Action) {
     print_text(b"\n");
 }
 
-pub fn print_actions(text: &[u8], tokens: &[u64], actions: &[u64], operands: &[u64], n: usize) {
+fn print_actions(text: &[u8], tokens: &[u64], actions: &[u64], operands: &[u64], n: usize) {
     let mut i = 0;
     while i < n {
         print_action(text, tokens, operands, entries::action_in(actions, i));
@@ -70,7 +70,7 @@ pub fn print_actions(text: &[u8], tokens: &[u64], actions: &[u64], operands: &[u
 }
 
 // Level, name, position.
-pub fn print_label(text: &[u8], tokens: &[u64], l: Label) {
+fn print_label(text: &[u8], tokens: &[u64], l: Label) {
     let token = entries::token_in(tokens, l.token);
     print_text(b"label ");
     print_number(l.level as u64);
@@ -82,7 +82,7 @@ pub fn print_label(text: &[u8], tokens: &[u64], l: Label) {
 }
 
 // The table has them by level and order.
-pub fn print_labels(text: &[u8], tokens: &[u64], labels: &[u64], n: usize) {
+fn print_labels(text: &[u8], tokens: &[u64], labels: &[u64], n: usize) {
     let mut i = 0;
     while i < n {
         print_label(text, tokens, entries::label_in(labels, i));
@@ -90,7 +90,7 @@ pub fn print_labels(text: &[u8], tokens: &[u64], labels: &[u64], n: usize) {
     }
 }
 
-pub fn print_counts(c: Counts) {
+fn print_counts(c: Counts) {
     print_text(b"actions ");
     print_number(c.actions as u64);
     print_text(b" labels ");

@@ -203,7 +203,7 @@ fn is_exponent(s: &[u8], i: usize) -> bool
 }
 
 // Whether a text is in the number pattern.
-pub fn is_number(s: &[u8]) -> bool
+fn is_number(s: &[u8]) -> bool
     ensures { λ r. ⌜ r ≡ isNumber (now (s .entry)) ⌝ }
 {
     if !has_digit(s) {

@@ -44,10 +44,20 @@ pub enum Class {
     Target,
 }
 
+// Places of kinds in `TokenKind`.
+const STRING: u64 = 1;
+
+const REGISTER: u64 = 4;
+
+const IDENTIFIER: u64 = 7;
+
 const COMMA: u64 = 9;
 
 const TRUE: u64 = 12;
 
+const FALSE: u64 = 13;
+
+// The event of an operand.
 const GIVEN: u64 = 2;
 
 // ---- one token
@@ -114,13 +124,13 @@ pub fn fits_at(text: &[u8], s: &[u64], at: usize, m: Class) -> bool
     }
     let k = kind_at(s, at);
     match m {
-        Class::String => k == 1,
+        Class::String => k == STRING,
         Class::Value => value_at(text, s, at),
-        Class::Bool => one_of(k, 12, 13),
+        Class::Bool => one_of(k, TRUE, FALSE),
         Class::U8 => u8_at(text, s, at),
         Class::U16 => u16_at(text, s, at),
-        Class::Identifier => k == 7,
-        Class::Target => one_of(k, 1, 4),
+        Class::Identifier => k == IDENTIFIER,
+        Class::Target => one_of(k, STRING, REGISTER),
     }
 }
 
@@ -210,7 +220,7 @@ fn given(text: &[u8], s: &[u64], events: &mut [u64], c: At, m: Class) -> Step
     Step::To(d)
 }
 
-pub fn operand(text: &[u8], s: &[u64], events: &mut [u64], c: At, m: Class) -> Step
+fn operand(text: &[u8], s: &[u64], events: &mut [u64], c: At, m: Class) -> Step
     requires { ⌜ Fine (now text) (now s) c ⌝ }
     ensures { λ r. ⌜ OperandRead m (now (text .entry)) (now (s .entry)) (now (events .entry)) (now (events .exit)) c r ⌝ }
 {
@@ -223,7 +233,7 @@ pub fn operand(text: &[u8], s: &[u64], events: &mut [u64], c: At, m: Class) -> S
     }
 }
 
-pub fn comma(text: &[u8], s: &[u64], c: At) -> Step
+fn comma(text: &[u8], s: &[u64], c: At) -> Step
     requires { ⌜ Fine (now text) (now s) c ⌝ }
     ensures { λ r. ⌜ CommaRead (now (text .entry)) (now (s .entry)) c r ⌝ }
 {

@@ -22,6 +22,7 @@ ghost use Rattle.operands.specs.Contract.{Fine};
 ghost use Rattle.parser.specs.Parsing.{EndRead, ColonRead, LabelRead, NewlinesRead, HandlerRead, TargetRead, pastTarget, moveTo, GiveAsked, GiveRead, TargetBefore, BlockRead, TryRead, HandlersRead, LastRead, BlocksRead, NotClosing, Plain, ItemRead, LevelRead, blockNumber};
 ghost use Rattle.parser.specs.Parsed.{Parsed};
 
+// Places of kinds in `TokenKind`.
 const NEWLINE: u64 = 0;
 
 const IDENTIFIER: u64 = 7;
@@ -36,6 +37,7 @@ const CATCH: u64 = 16;
 
 const FINALLY: u64 = 17;
 
+// The kinds of events: an action, a label, an operand, a block that opens, a level that closes.
 const ACTED: u64 = 0;
 
 const NAMED: u64 = 1;

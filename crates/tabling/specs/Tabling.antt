@@ -156,7 +156,7 @@ view actions operands owners counts labels s =
       action = s .action;
     }
 
--- a word of a log: its event's number, or an action's number, fits its table
+-- a word of a log: the number of an event of kind 0, an action's, is below 128
 abbrev pub Sane : ℕ → Type 0
 Sane w = w / 1048576 ≡ 0 → w % 1048576 < 128
 

@@ -143,6 +143,7 @@ fn add(
     ensures { λ r. ⌜ Next s r ⌝ }
 {
     let holds = word % 1048576;
+    // The kinds of events: an action, a label, an operand, a block that opens, a level that closes.
     match word / 1048576 {
         0 => act(holds, s, actions, counts),
         1 => name(holds, s, counts, labels),

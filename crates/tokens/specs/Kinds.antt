@@ -48,7 +48,7 @@ kindNumber k = numberIn (codeOf k)
 abbrev pub isKind : TokenKind → TokenKind → Bool
 isKind k l = eqb (codeOf k .place) (codeOf l .place)
 
--- the kinds by place, those that carry a number carrying n; `Unknown` stands last
+-- the kinds by place, those that carry a number carrying n; `Unknown` is what stands past its end
 abbrev pub kinds : ℕ → List TokenKind
 kinds n =
     K.Newline

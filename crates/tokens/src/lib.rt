@@ -81,7 +81,8 @@ pub fn kind_number(k: TokenKind) -> u64
     }
 }
 
-// The kind of a number; `Unknown` where the number is no kind's.
+// The kind of a number. A number of 18 * 65,536 or more is an Unknown's; below that the part above 65,536 gives the kind, a register is
+// taken modulo 256, an action number over 99 as 0.
 pub fn kind_of(number: u64) -> TokenKind
     ensures { λ r. ⌜ r ≡ kindOf number ⌝ }
 {
