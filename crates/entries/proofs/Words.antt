@@ -8,6 +8,7 @@ use mir.Syntax.{w64}
 use mir.Val.{SFits, toZ, ofZ}
 use mir.ValLaws.{toZ-pos, toZ-ofZ}
 use borrow.Author.Tests.{lt-ltb, le-ltb}
+use Rattle.laws.proofs.Integers.{zero-sub}
 use Rattle.actions.specs.Numbers.{numberOf}
 use Rattle.actions.proofs.Numbers.{action-number}
 use Rattle.entries.specs.declared.Action.{Action}
@@ -44,10 +45,6 @@ block-back (B.Catch a) = sym (part (a * 4 + 3) 2 (B.Catch a) (λ e. omega arith)
 block-back (B.Finally a) = sym (part (a * 4 + 4) 3 (B.Finally a) (λ e. omega arith) (omega arith) (ap B.Finally (omega arith)))
 
 -- ---- nets
-
-zero-sub : (n : ℕ) → pos 0 -ℤ pos n ≡ negℤ (pos n)
-zero-sub zero = refl
-zero-sub (suc n) = simp (lt-ltb 0 (suc n) (omega arith)) (ap negsuc (omega arith))
 
 neg-small : (n : ℕ) → n ≤ 196608 → mag (negℤ (pos n)) < 196608
 neg-small zero g = omega arith

@@ -6,7 +6,7 @@ use Prim.Native.Nat.{ℕ, zero, suc, _+_, _*_, _-_, _≤_, _<_}
 use native.Mathlib.Numerals.{add-one}
 use native.Mathlib.Omega.{arith}
 use lib.Dec.{eqb, leb}
-use lib.IntN.{pos, negsuc, negℤ, _-ℤ_}
+use lib.IntN.{pos, negℤ, _-ℤ_}
 use lib.ListN.{length, take, drop, getD, drop-of-length-le, length-drop}
 use lib.Seq.{drop-cons, take-all}
 use lib.Signed.{mag}
@@ -14,6 +14,7 @@ use mir.Syntax.{w32, w64}
 use mir.Val.{SFits, toZ, ofZ}
 use mir.ValLaws.{toZ-pos, toZ-ofZ}
 use borrow.Author.Tests.{le-leb, lt-leb, leb-true, leb-false, lt-ltb, le-ltb, eqb-true}
+use Rattle.laws.proofs.Integers.{zero-sub}
 use Rattle.scanner.specs.Bytes.{isDigit}
 use Rattle.scanner.specs.Ends.{digitsEnd}
 use Rattle.scanner.proofs.Runs.{inside}
@@ -102,10 +103,6 @@ module _ (top : ℕ) (s : List ℕ) where
       by false e = let z : _≡_ {A = ℕ} 0 1 = cc in omega arith
 
 -- ---- a minus: u64 to i64, taken from 0, to i32
-
-zero-sub : (n : ℕ) → pos 0 -ℤ pos n ≡ negℤ (pos n)
-zero-sub zero = refl
-zero-sub (suc n) = simp (lt-ltb 0 (suc n) (omega arith)) (ap negsuc (omega arith))
 
 neg-small : (n : ℕ) → n ≤ 2147483648 → mag (negℤ (pos n)) < 2147483648
 neg-small zero g = omega arith

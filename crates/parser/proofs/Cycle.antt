@@ -32,7 +32,7 @@ use Rattle.operands.specs.declared.At.{At}
 use Rattle.operands.specs.declared.Step.{Step}
 use Rattle.operands.specs.declared.Step.the-variants.{To, Bad, Deep}
 use Rattle.operands.specs.Lexemes.{kindAt}
-use Rattle.operands.specs.Log.{Log, log, logWord, emit, passed, logged}
+use Rattle.operands.specs.Log.{Log, log, logWord, emit, passed, logged, partNumber}
 use Rattle.operands.specs.Contract.{judge, outcome, Fine, Onward, Ahead, Reads, at-end as action-ends, left, OperandsRead}
 use Rattle.operands.proofs.OneToken.{kind-inside}
 use Rattle.operands.proofs.Places.{lexemes-end, at-step, at-stop, at-end}
@@ -44,7 +44,7 @@ use Rattle.parser.specs.declared.Handler.{Handler}
 use Rattle.parser.specs.declared.Handler.the-variants as H
 use Rattle.parser.specs.declared.BlockKind.{BlockKind}
 use Rattle.parser.specs.declared.BlockKind.the-variants as B
-use Rattle.parser.specs.Parsing.{ReadsIn, Forward, EndRead, LabelRead, Ended-at, NoneSeen, CatchSeen, FinallySeen, HandlerRead, targetOf, pastTarget, moveTo, TargetBefore, TargetRead, GiveAsked, givenLog, givenAt, GiveRead, partOf, blockNumber, BlockRead, TryRead, HandlersRead, LastRead, BlocksRead, NotClosing, Plain, ItemRead, whole, LevelSays, LevelRead}
+use Rattle.parser.specs.Parsing.{ReadsIn, Forward, EndRead, LabelRead, Ended-at, NoneSeen, CatchSeen, FinallySeen, HandlerRead, targetOf, pastTarget, moveTo, TargetBefore, TargetRead, GiveAsked, givenLog, givenAt, GiveRead, partOf, BlockRead, TryRead, HandlersRead, LastRead, BlocksRead, NotClosing, Plain, ItemRead, whole, LevelSays, LevelRead}
 use Rattle.parser.proofs.Leaves.{kind-known, kind-other, forward-on}
 
 -- the place of the kind of the token there
@@ -103,12 +103,12 @@ unfolding LevelSays
 level-inner text s a b c d r v = v .says
 
 pub block-goes : (b : BlockKind) (text s a a′ l : List ℕ) (c d : At) (room k j : ℕ) (r : Step) → Fine text s c → k ≡ kindAt s (c .at) → k ≡ 10 → (room ≡ 0 → ⊥) →
-    (j ≡ blockNumber b) × (j ≤ 3) → a′ ≡ set a (c .events) (logWord 3 j) → d ≡ logged c → LevelRead text s a′ l d (room - 1) true r → BlockRead b text s a l c room r
+    (j ≡ partNumber (partOf b)) × (j ≤ 3) → a′ ≡ set a (c .events) (logWord 3 j) → d ≡ logged c → LevelRead text s a′ l d (room - 1) true r → BlockRead b text s a l c room r
 block-goes b text s a a′ l c d room k j r f e z o p q y v =
     let i = kind-known s (c .at) k 10 e z (omega arith) in
     let m = i .1 in
     let t : room ≡ suc (room - 1) = omega arith in
-    let n = set a (c .events) (logWord 3 (blockNumber b)) in
+    let n = set a (c .events) (logWord 3 (partNumber (partOf b))) in
     let w : a′ ≡ n = q ∙ ap (λ (x : ℕ). set a (c .events) (logWord 3 x)) (p .0) in
     let v′ : LevelRead text s n l (logged c) (room - 1) true r =
     subst (λ (x : At). LevelRead text s n l x (room - 1) true r) y (subst (λ (x : List ℕ). LevelRead text s x l d (room - 1) true r) w v) in

@@ -15,7 +15,7 @@ use Rattle.operands.specs.declared.At.{At}
 use Rattle.operands.specs.declared.Step.{Step}
 use Rattle.operands.specs.declared.Step.the-variants.{To, Bad, Deep}
 use Rattle.operands.specs.Lexemes.{lexemeOf, kindAt}
-use Rattle.operands.specs.Log.{Log, log, logWord, emit, passed, partNumber}
+use Rattle.operands.specs.Log.{Log, log, logWord, emit, passed}
 use Rattle.operands.specs.Contract.{judge, outcome, Fine, Ahead, Reads, Passes, nothing, at-end, left}
 use Rattle.parser.specs.declared.CatchTarget.{CatchTarget}
 use Rattle.parser.specs.declared.CatchTarget.the-variants as T
@@ -135,9 +135,6 @@ partOf B.Body = body
 partOf B.Try = try
 partOf B.Catch = catch
 partOf B.Finally = finally
-
-abbrev pub blockNumber : BlockKind → ℕ
-blockNumber b = partNumber (partOf b)
 
 abbrev pub BlockRead : BlockKind → List ℕ → List ℕ → List ℕ → List ℕ → At → ℕ → Step → Type 0
 BlockRead k text s a b c d r = ReadsIn (λ e. opens (partOf k) ∷ []) nothing text s a b c d r

@@ -18,8 +18,9 @@ ghost use mathlib.Core.Path.{_≡_};
 ghost use Prim.Native.Nat.{_≤_, _<_, _+_};
 ghost use lib.ListN.{length};
 ghost use Rattle.operands.specs.Lexemes.{Sound, kindAt};
+ghost use Rattle.operands.specs.Log.{partNumber};
 ghost use Rattle.operands.specs.Contract.{Fine};
-ghost use Rattle.parser.specs.Parsing.{EndRead, ColonRead, LabelRead, NewlinesRead, HandlerRead, TargetRead, pastTarget, moveTo, GiveAsked, GiveRead, TargetBefore, BlockRead, TryRead, HandlersRead, LastRead, BlocksRead, NotClosing, Plain, ItemRead, LevelRead, blockNumber};
+ghost use Rattle.parser.specs.Parsing.{EndRead, ColonRead, LabelRead, NewlinesRead, HandlerRead, TargetRead, pastTarget, moveTo, GiveAsked, GiveRead, TargetBefore, BlockRead, TryRead, HandlersRead, LastRead, BlocksRead, NotClosing, Plain, ItemRead, LevelRead, partOf};
 ghost use Rattle.parser.specs.Parsed.{Parsed};
 
 // Places of kinds in `TokenKind`.
@@ -206,7 +207,7 @@ fn give_target(events: &mut [u64], c: At, a: CatchTarget) -> At
 }
 
 fn block_number(b: BlockKind) -> u64
-    ensures { λ r. ⌜ (r ≡ blockNumber b) × (r ≤ 3) ⌝ }
+    ensures { λ r. ⌜ (r ≡ partNumber (partOf b)) × (r ≤ 3) ⌝ }
 {
     match b {
         BlockKind::Body => 0,

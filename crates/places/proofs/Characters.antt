@@ -7,7 +7,7 @@ use native.Mathlib.Numerals.{add-one}
 use native.Mathlib.Omega.{arith}
 use lib.ListN.{length, drop, getD, drop-of-length-le}
 use lib.Seq.{drop-cons}
-use Rattle.places.specs.Places.{isTail, codePoints, between, lineStart, placeIn, columnAt}
+use Rattle.places.specs.Places.{isTail, codePoints, bytesBetween, lineStart, placeIn, columnAt}
 
 module _ (s : List ℕ) (i n : ℕ) (so : codePoints s ≡ n + codePoints (drop i s)) where
   pub one-more : (r : ℕ) (t : Bool) → i < length s → r ≡ cond (not t) 1 0 → t ≡ isTail (getD s i 0)
@@ -23,6 +23,6 @@ module _ (s : List ℕ) (i n : ℕ) (so : codePoints s ≡ n + codePoints (drop 
   all h = sym (so ∙ simp (drop-of-length-le s h) (omega arith))
 
 -- the characters from the start of the line on
-pub column : (s : List ℕ) (at a e n : ℕ) → n ≡ codePoints (between s a e) → a ≡ lineStart s (placeIn s at) → e ≡ placeIn s at
+pub column : (s : List ℕ) (at a e n : ℕ) → n ≡ codePoints (bytesBetween s a e) → a ≡ lineStart s (placeIn s at) → e ≡ placeIn s at
     → n + 1 ≡ columnAt s at
 column s at a e n f g h = simp (f, g, h)

@@ -34,8 +34,8 @@ unfoldable pub placeIn : List ℕ → ℕ → ℕ
 placeIn s at = cond (ltb (length s) at) (length s) at
 
 -- the bytes of a text from a up to e
-abbrev pub between : List ℕ → ℕ → ℕ → List ℕ
-between s a e = take (e - a) (drop a s)
+abbrev pub bytesBetween : List ℕ → ℕ → ℕ → List ℕ
+bytesBetween s a e = take (e - a) (drop a s)
 
 -- the line ends before a byte, and one
 abbrev pub lineAt : List ℕ → ℕ → ℕ
@@ -43,4 +43,4 @@ lineAt s at = lineEnds s (placeIn s at) + 1
 
 -- the characters since the start of its line, and one
 abbrev pub columnAt : List ℕ → ℕ → ℕ
-columnAt s at = codePoints (between s (lineStart s (placeIn s at)) (placeIn s at)) + 1
+columnAt s at = codePoints (bytesBetween s (lineStart s (placeIn s at)) (placeIn s at)) + 1

@@ -14,7 +14,7 @@ use Rattle.grouping.specs.Grouping.{having}
 use Rattle.tabling.specs.Tabling.{labelWord}
 use Rattle.reading.specs.Trees.{All, AllOf, AllIn, entry, givenOf, givenIn, namedOf, namedIn, IsLow}
 use Rattle.reading.proofs.Runs.{having-append, OfKey, having-other, swap, Every, every-append, runs, runs-append, runs-low}
-use Rattle.reading.proofs.Trees.{opened-count, opened-counts, acted-count, acted-counts}
+use Rattle.reading.proofs.Trees.{low-waiting, opened-count, opened-counts, acted-count, acted-counts}
 
 -- ---- the runs: an action's operands, a level's own labels
 
@@ -125,12 +125,6 @@ module _ (k : ℕ) where
   led catch o os g r h e = refl
   led finally o os g r h e = refl
 
-  waiting-low : (p : Part) (os : List Lexeme) → All IsLow os → All IsLow (waiting p os)
-  waiting-low body os h = tt
-  waiting-low try os h = h
-  waiting-low catch os h = tt
-  waiting-low finally os h = tt
-
   mutual
     pub givens-alike : (x : Items) (ℓ m a : ℕ) → AllOf IsLow x → having k (givenOf a x) ≡ having k (runs operandRun a (actedOf ℓ m x))
     givens-alike done ℓ m a h = refl
@@ -158,7 +152,7 @@ module _ (k : ℕ) where
         let os₂ = map (entry o) (waiting p os) in
         both os₁ os₁ (givenOf a x ++ givenIn o a′ (waiting p os) bs) (inner ++ (os₂ ++ behind)) refl
         (both (givenOf a x) inner (givenIn o a′ (waiting p os) bs) (os₂ ++ behind)
-        (givens-alike x m (suc m) a (g .0)) (givens-in bs (waiting p os) m′ o a′ (omega (arith, l)) (waiting-low p os h) (g .1)))
+        (givens-alike x m (suc m) a (g .0)) (givens-in bs (waiting p os) m′ o a′ (omega (arith, l)) (low-waiting p os h) (g .1)))
         ∙ led p o os inner behind h (λ q. runs-low operandRun operands-own k a (actedOf m (suc m) x) (acted-all IsLow x m (suc m) (g .0)) (omega (arith, q, l)))
         ∙ ap (λ (q : ℕ). having k (map (entry o) os ++ (inner ++ runs operandRun (a + q) (actedIn m′ bs)))) (sym e)
         ∙ ap (λ (q : List ℕ). having k (map (entry o) os ++ q)) (sym (runs-append operandRun a (actedOf m (suc m) x) (actedIn m′ bs)))

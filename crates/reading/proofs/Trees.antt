@@ -96,7 +96,7 @@ low-leading try os h = tt
 low-leading catch os h = h
 low-leading finally os h = h
 
-low-waiting : (p : Part) (os : List Lexeme) → All IsLow os → All IsLow (waiting p os)
+pub low-waiting : (p : Part) (os : List Lexeme) → All IsLow os → All IsLow (waiting p os)
 low-waiting body os h = tt
 low-waiting try os h = h
 low-waiting catch os h = tt

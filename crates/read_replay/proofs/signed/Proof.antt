@@ -1,20 +1,16 @@
 -- `read_replay::signed` negates a number that is small enough. Assumes nothing.
 use borrow.Author.Needs.{needs}
-use borrow.Author.Tests.{lt-ltb}
-use mathlib.Core.Path.{_≡_, refl, sym, ap, subst, _∙_}
+use mathlib.Core.Path.{_≡_, sym, ap, subst, _∙_}
 use Prim.Native.Nat.{ℕ, zero, suc, _+_, _/_, _≤_, _<_}
 use native.Mathlib.Omega.{arith}
-use lib.IntN.{pos, negsuc, negℤ, _-ℤ_}
+use lib.IntN.{pos, negℤ, _-ℤ_}
 use lib.Signed.{mag}
 use mir.Syntax.{w64}
 use mir.Val.{SFits, toZ}
 use mir.ValLaws.{toZ-pos}
+use Rattle.laws.proofs.Integers.{zero-sub}
 use Rattle.read_replay.proofs.signed.Statement.{statement}
 use Rattle.read_replay.proofs.signed.Tie as tie
-
-zero-sub : (n : ℕ) → pos 0 -ℤ pos n ≡ negℤ (pos n)
-zero-sub zero = refl
-zero-sub (suc n) = simp (lt-ltb 0 (suc n) (omega arith)) (ap negsuc (omega arith))
 
 small : (n : ℕ) → n ≤ 4294967297 → mag (negℤ (pos n)) < 4294967297
 small zero g = omega arith
