@@ -36,6 +36,10 @@ infix 70 _gives_
 abbrev _gives_ : List ℕ → Answer (List Token) → Case
 s gives r = record { text = s; lexed = r }
 
+-- é in UTF-8
+abbrev accented : List ℕ
+accented = 195 ∷ 169 ∷ []
+
 cases : List Case
 cases =
     [] gives accepted ([])
@@ -54,8 +58,8 @@ cases =
     ∷ (bytes "\"") gives refused 3 0
     ∷ (bytes "\"\n") gives refused 3 0
     ∷ (bytes "GotoLabel \"ab") gives accepted (act A.GotoLabel 0 9 ∷ tok K.String 10 13 ∷ [])
-    ∷ (bytes "GotoLabel \"Ã©") gives refused 4 10
-    ∷ (bytes "\"Ã©\" \"Ã©\n\"") gives refused 4 5
+    ∷ (bytes "GotoLabel \"" ++ accented) gives refused 4 10
+    ∷ (bytes "\"" ++ accented ++ bytes "\" \"" ++ accented ++ bytes "\n\"") gives refused 4 5
     ∷ (bytes "\"a\\\"b\\\\\" \"c\\d\"\r\n\"x\n") gives accepted (tok K.String 0 8 ∷ tok K.String 9 14 ∷ tok K.Newline 14 16 ∷ tok K.String 16 18 ∷ tok K.Newline 18 19 ∷ [])
     ∷ (bytes "\"\\\n") gives accepted (tok K.String 0 2 ∷ tok K.Newline 2 3 ∷ [])
     ∷ (bytes "DefineFunction \"f\", -3 {}") gives accepted (act A.DefineFunction 0 14 ∷ tok K.String 15 18 ∷ tok K.Comma 18 19 ∷ tok K.Integer 20 22 ∷ tok K.OpenBrace 23 24 ∷ tok K.CloseBrace 24 25 ∷ [])
@@ -63,8 +67,8 @@ cases =
     ∷ (bytes "With { a: }") gives accepted (act A.With 0 4 ∷ tok K.OpenBrace 5 6 ∷ tok K.Identifier 7 8 ∷ tok K.Colon 8 9 ∷ tok K.CloseBrace 10 11 ∷ [])
     ∷ (bytes "a: Add\na: Pop") gives accepted (tok K.Identifier 0 1 ∷ tok K.Colon 1 2 ∷ act A.Add 3 6 ∷ tok K.Newline 6 7 ∷ tok K.Identifier 7 8 ∷ tok K.Colon 8 9 ∷ act A.Pop 10 13 ∷ [])
     ∷ (bytes "\r\r\n\t$x_9 1.5e-3,.") gives accepted (tok K.Newline 0 1 ∷ tok K.Newline 1 3 ∷ tok K.Identifier 4 8 ∷ tok K.Float 9 15 ∷ tok K.Comma 15 16 ∷ tok K.Unknown 16 17 ∷ [])
-    ∷ (bytes "ï»¿Add") gives accepted (tok K.Unknown 0 6 ∷ [])
-    ∷ (bytes "abí\u{a0}\u{80}") gives refused 2 2
+    ∷ ((239 ∷ 187 ∷ 191 ∷ []) ++ bytes "Add") gives accepted (tok K.Unknown 0 6 ∷ [])
+    ∷ (bytes "ab" ++ (237 ∷ 160 ∷ 128 ∷ [])) gives refused 2 2
     ∷ (bytes "1.2.3 -5e+") gives accepted (tok K.Float 0 3 ∷ tok K.Unknown 3 10 ∷ [])
     ∷ (bytes "-5e+ 1e 1.e5 -.5 -") gives accepted (tok K.Integer 0 4 ∷ tok K.Integer 5 7 ∷ tok K.Float 8 12 ∷ tok K.Float 13 16 ∷ tok K.Integer 17 18 ∷ [])
     ∷ (bytes "tRue falsE null undefined catch Finally infinity") gives accepted (tok K.True 0 4 ∷ tok K.False 5 10 ∷ tok K.Null 11 15 ∷ tok K.Undefined 16 25 ∷ tok K.Catch 26 31 ∷ tok K.Finally 32 39 ∷ tok K.Identifier 40 48 ∷ [])
