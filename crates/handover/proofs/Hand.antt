@@ -1,7 +1,7 @@
 -- `hand_over`: row 8, or the tables of the reading. Assumes nothing.
 use mathlib.Core.Path.{_≡_, refl, sym, ap, _∙_, subst}
 use mathlib.Core.List.{List, [], _∷_, _++_, map}
-use Prim.Native.Nat.{ℕ, _+_, _≤_, _<_}
+use Prim.Native.Nat.{ℕ, _≤_, _<_}
 use native.Mathlib.Omega.{arith}
 use lib.ListN.{length, take, drop, getD, length-map, length-take}
 use lib.Seq.{take-length}
@@ -17,7 +17,7 @@ use Rattle.reading.specs.Tables.{front, labelEntryWord, labelWords}
 use Rattle.reading.specs.Told.{Filled, Fillable, Fills}
 use Rattle.reading.proofs.Filled.{actions-counted, operands-counted, levels-counted, labels-counted}
 use Rattle.handover.specs.declared.Reading.the-variants as R
-use Rattle.handover.specs.Reading.{Tables, places, filled, Reads, lent}
+use Rattle.handover.specs.Reading.{Tables, places, Reads, lent}
 use Rattle.handover.specs.Scratch.{lowestShort, Ready}
 use Rattle.handover.proofs.Rows.{Lowest, found, none}
 
