@@ -196,15 +196,23 @@ fn hand_over(text: &[u8], scratch: &mut [u64], table: &mut [u64]) -> Lexing
 }
 
 // A small text does not pay for the scratch of a large one.
-fn lex_small(text: &[u8], table: &mut [u64]) -> Lexing
-    requires { ⌜ length (now text) ≤ 4096 ⌝ }
+fn lex_1024(text: &[u8], table: &mut [u64]) -> Lexing
+    requires { ⌜ length (now text) ≤ 1024 ⌝ }
     ensures { λ r. ⌜ LexesUtf8 (now (text .entry)) (now (table .entry)) (now (table .exit)) r ⌝ }
 {
-    let mut scratch = [0u64; 4096];
+    let mut scratch = [0u64; 1024];
     hand_over(text, &mut scratch, table)
 }
 
-fn lex_large(text: &[u8], table: &mut [u64]) -> Lexing
+fn lex_8192(text: &[u8], table: &mut [u64]) -> Lexing
+    requires { ⌜ length (now text) ≤ 8192 ⌝ }
+    ensures { λ r. ⌜ LexesUtf8 (now (text .entry)) (now (table .entry)) (now (table .exit)) r ⌝ }
+{
+    let mut scratch = [0u64; 8192];
+    hand_over(text, &mut scratch, table)
+}
+
+fn lex_65536(text: &[u8], table: &mut [u64]) -> Lexing
     requires { ⌜ length (now text) ≤ 65536 ⌝ }
     ensures { λ r. ⌜ LexesUtf8 (now (text .entry)) (now (table .entry)) (now (table .exit)) r ⌝ }
 {
@@ -223,8 +231,11 @@ pub fn lex(text: &[u8], table: &mut [u64]) -> Lexing
     if valid < text.len() {
         return Lexing::Refused(Refusal::NotUtf8(valid));
     }
-    if text.len() <= 4096 {
-        return lex_small(text, table);
+    if text.len() <= 1024 {
+        return lex_1024(text, table);
     }
-    lex_large(text, table)
+    if text.len() <= 8192 {
+        return lex_8192(text, table);
+    }
+    lex_65536(text, table)
 }

@@ -17,14 +17,21 @@ small c =
     let v = c .before .before .before .before .before .before in
     let a = v .before .before .before .before .args in
     laws.rows345 (a .text .now) (a .table .now) (v .before .if1 .left) _ (v .valid-up-to .ensures) (c .before .before .before .before .before .if2 .left) _ _
-    (c .before .before .lex-small .ensures)
+    (c .before .before .lex-1024 .ensures)
 
-large : tie.Need-returns-4
-large c =
-    let v = c .before .before .before .before .before .before in
+medium : tie.Need-returns-4
+medium c =
+    let v = c .before .before .before .before .before .before .before in
     let a = v .before .before .before .before .args in
-    laws.rows345 (a .text .now) (a .table .now) (v .before .if1 .left) _ (v .valid-up-to .ensures) (c .before .before .before .before .before .if2 .left) _ _
-    (c .before .before .lex-large .ensures)
+    laws.rows345 (a .text .now) (a .table .now) (v .before .if1 .left) _ (v .valid-up-to .ensures) (c .before .before .before .before .before .before .if2 .left) _ _
+    (c .before .before .lex-8192 .ensures)
+
+large : tie.Need-returns-5
+large c =
+    let v = c .before .before .before .before .before .before .before in
+    let a = v .before .before .before .before .args in
+    laws.rows345 (a .text .now) (a .table .now) (v .before .if1 .left) _ (v .valid-up-to .ensures) (c .before .before .before .before .before .before .if2 .left) _ _
+    (c .before .before .lex-65536 .ensures)
 
 pub lex-spec : {M : Type 1} → statement M
 lex-spec =
@@ -36,6 +43,9 @@ lex-spec =
     (λ c κs. search needs)
     (λ c. search needs)
     small
+    (λ c κs. search needs)
+    (λ c. search needs)
+    medium
     (λ c κs. search needs)
     (λ c. search needs)
     large)
