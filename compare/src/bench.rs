@@ -1,5 +1,6 @@
 //! Speed: reading and lexing here and by the oracle, by turns, on ordinary patches and on texts that are all labels.
 
+use std::collections::HashSet;
 use std::hint::black_box;
 use std::process::Command;
 use std::time::Instant;
@@ -215,4 +216,56 @@ pub fn bench(oracle: &str, seconds: f64) -> u64 {
 pub fn lex(text: &[u8], seconds: f64) {
     let speed = lexing(text, &mut vec![0; text.len()], seconds);
     println!("lexing {} bytes: {:.1} MB/s best, {:.1} median", text.len(), speed.best, speed.median);
+}
+
+/// The bucket of a name at the top level, as crates/labels finds it.
+fn bucket(seed: u64, buckets: usize, name: &[u8]) -> usize {
+    let h = name.iter().fold(1, |h, &b| (h * seed + b as u64) & 0xffff_ffff);
+    ((h * seed & 0xffff_ffff) * buckets as u64 >> 32) as usize
+}
+
+/// Labels made by who follows the index: each name falls into the bucket that is fullest under the seed of the moment.
+fn hostile(length: usize) -> Vec<u8> {
+    let count = SIZE / (length + 1);
+    let (mut seed, mut left) = (1_540_483_477, 8 * count);
+    let (mut names, mut seen, mut full) = (Vec::<Vec<u8>>::new(), HashSet::new(), vec![0; count]);
+    let mut random = texts::Random::new(1);
+    while names.len() < count {
+        if left == 0 {
+            (seed, left, full) = ((seed * 1_664_525 + 1_013_904_222) & 0xffff_ffff, 8 * count, vec![0; count]);
+            names.iter().for_each(|name| full[bucket(seed, count, name)] += 1);
+        }
+        let target = (0..count).max_by_key(|&b| full[b]).unwrap();
+        let name = loop {
+            let mut name = vec![b'z'];
+            name.extend((1..length).map(|_| b"abcdefghijklmnopqrstuvwxyzABCDEFGHIJKLMNOPQRSTUVWXYZ_$0123456789"[random.below(64)]));
+            if bucket(seed, count, &name) == target && seen.insert(name.clone()) {
+                break name;
+            }
+        };
+        left = left.saturating_sub(full[target]);
+        full[target] += 1;
+        names.push(name);
+    }
+    labels(names.into_iter().map(|name| String::from_utf8(name).unwrap()))
+}
+
+/// Names that meet under every odd seed: blocks of 128 letters by the Thue-Morse sequence, and the same with the letters changed over.
+fn always_meeting(blocks: u32) -> Vec<u8> {
+    let block = |turned: u32| (0..128u32).map(move |i| if (i.count_ones() + turned) % 2 == 0 { 'a' } else { 'b' });
+    labels((0..).map(move |n: u32| (0..blocks).rev().flat_map(|i| block(n >> i & 1)).collect()))
+}
+
+/// Texts made against the index of labels, beside an ordinary patch: what a byte takes, in times of the patch's. By turns, the best counts.
+pub fn against_index(seconds: f64) {
+    let mut all = vec![Subject::new(ORDINARY, texts::ordinary(SIZE, 1))];
+    let followed = [("names of 5 bytes", 5), ("names of 6 bytes", 6), ("names of 7 bytes", 7), ("names of 8 bytes", 8)];
+    all.extend(followed.map(|(what, n)| Subject::new(what, hostile(n))));
+    all.extend([("6 blocks of 128 bytes", 6), ("7 blocks of 128 bytes", 7)].map(|(what, n)| Subject::new(what, always_meeting(n))));
+    (0..ROUNDS).for_each(|_| all.iter_mut().for_each(|s| s.ours(seconds)));
+    let ordinary = Speed::of(&all[0].reading.ours).ns_per_byte();
+    for s in &all {
+        let ns = Speed::of(&s.reading.ours).ns_per_byte();
+        println!("{:<22} {:>5} labels {ns:>7.1} ns/byte {:>6.2} times {:>6.2} ms", s.what, s.counts[4], ns / ordinary, ns * s.text.len() as f64 / 1e6);
+    }
 }

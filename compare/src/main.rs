@@ -15,6 +15,7 @@
 //!   compare ORACLE sample-reading FILE COUNT SEED  the same for reading, for crates/read_replay, and what that program is to print
 //!   compare ordinary FILE SIZE SEED               an ordinary patch of about that many bytes
 //!   compare lexing FILE SECONDS                   lexing speed on one text
+//!   compare against-index SECONDS                 speed on labels that are made against the index
 //!   compare ORACLE bench SECONDS                  speed of both sides on ordinary patches and on labels; see compare/bench
 
 mod bench;
@@ -293,6 +294,10 @@ fn main() {
     let differences = match words[..] {
         ["lexing", file, seconds] => {
             bench::lex(&std::fs::read(file).expect("the text"), seconds.parse().expect("seconds"));
+            0
+        }
+        ["against-index", seconds] => {
+            bench::against_index(seconds.parse().expect("seconds"));
             0
         }
         ["ordinary", file, size, seed] => {
