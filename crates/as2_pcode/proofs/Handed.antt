@@ -36,7 +36,7 @@ use Rattle.reading.specs.Tables.{actionEntries, operandEntry, operandEntryWord,
 use Rattle.reading.proofs.Runs.{Every}
 use Rattle.reading.proofs.Groups.{NamedLow, own-few, acted-all, opened-low}
 use Rattle.reading.proofs.Ranges.{levels-below}
-use Rattle.reading.proofs.Counts.{tree-few}
+use Rattle.reading.proofs.Front.{few-of}
 use Rattle.reading.proofs.Places.{text-all}
 use Rattle.reading.proofs.Tokens.{tokens-back}
 use Rattle.handover.specs.declared.Counts.{Counts}
@@ -124,7 +124,7 @@ module _ {text : List ℕ} {x y : Tables} {c : Counts} (a : Accepts text x y c) 
   small = omega (arith, fits-size (read .fits), few-lexemes)
 
   few-actions : allActions tree ≤ 65536
-  few-actions = omega (arith, tree-few tree 0 0, small)
+  few-actions = omega (arith, few-of tree 0 1 0, small)
 
   levels-named : Every NamedLow (opened tree)
   levels-named = ((low, omega (arith, few-actions, own-few tree)), opened-low tree 0 low (omega (arith, few-actions)))
@@ -169,7 +169,7 @@ module _ {text : List ℕ} {x y : Tables} {c : Counts} (a : Accepts text x y c) 
   acted-kept =
       subst (λ (r : G.Reading). Every LevelLow (r .actions)) (read .told)
       (every-map LevelLow (λ (l : Acted). record { name = l .name; level = l .level }) (actedOf 0 1 tree)
-      (levels-below 131072 tree 0 1 (omega arith) (omega (arith, tree-few tree 0 0, small))))
+      (levels-below 131072 tree 0 1 (omega arith) (omega (arith, few-of tree 0 1 0, small))))
 
   actions-kept : Every LowAction (actionEntries 0 0 (R .actions) (R .operands))
   actions-kept = actions-low (R .operands) (R .actions) acted-kept (omega (arith, counts read .1, few-lexemes))

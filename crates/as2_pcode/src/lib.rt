@@ -7,212 +7,9 @@ use reading::Parsing;
 ghost use Prim.Native.Nat.{_≤_};
 ghost use lib.ListN.{length};
 ghost use Rattle.utf8.specs.Utf8.{validUpTo};
-ghost use Rattle.reading.specs.Told.{Logged};
 ghost use Rattle.handover.specs.Reading.{Reads, lent};
 
-// ---- scratch for the tables, by the number of tokens
-
-fn tables_256(
-    text: &[u8],
-    s: &[u64],
-    log: &[u64],
-    tokens: &mut [u64],
-    actions: &mut [u64],
-    operands: &mut [u64],
-    levels: &mut [u64],
-    labels: &mut [u64],
-) -> Reading
-    requires { ⌜ Logged (now text) (length (now tokens)) (now s) (now log) ⌝ }
-    requires { ⌜ length (now s) ≤ 256 ⌝ }
-    ensures { λ r. ⌜ Reads (now (text .entry)) (lent (now (tokens .entry)) (now (actions .entry)) (now (operands .entry)) (now (levels .entry)) (now (labels .entry))) (lent (now (tokens .exit)) (now (actions .exit)) (now (operands .exit)) (now (levels .exit)) (now (labels .exit))) r ⌝ }
-{
-    let mut acted = [0u64; 260];
-    let mut given = [0u64; 260];
-    let mut owners = [0u64; 260];
-    let mut counts = [0u64; 260];
-    let mut named = [0u64; 260];
-    let mut sorted = [0u64; 260];
-    let mut starts = [0u64; 260];
-    read_log(
-        text,
-        s,
-        log,
-        &mut acted,
-        &mut given,
-        &mut owners,
-        &mut counts,
-        &mut named,
-        &mut sorted,
-        &mut starts,
-        tokens,
-        actions,
-        operands,
-        levels,
-        labels,
-    )
-}
-
-fn tables_1024(
-    text: &[u8],
-    s: &[u64],
-    log: &[u64],
-    tokens: &mut [u64],
-    actions: &mut [u64],
-    operands: &mut [u64],
-    levels: &mut [u64],
-    labels: &mut [u64],
-) -> Reading
-    requires { ⌜ Logged (now text) (length (now tokens)) (now s) (now log) ⌝ }
-    requires { ⌜ length (now s) ≤ 1024 ⌝ }
-    ensures { λ r. ⌜ Reads (now (text .entry)) (lent (now (tokens .entry)) (now (actions .entry)) (now (operands .entry)) (now (levels .entry)) (now (labels .entry))) (lent (now (tokens .exit)) (now (actions .exit)) (now (operands .exit)) (now (levels .exit)) (now (labels .exit))) r ⌝ }
-{
-    let mut acted = [0u64; 1028];
-    let mut given = [0u64; 1028];
-    let mut owners = [0u64; 1028];
-    let mut counts = [0u64; 1028];
-    let mut named = [0u64; 1028];
-    let mut sorted = [0u64; 1028];
-    let mut starts = [0u64; 1028];
-    read_log(
-        text,
-        s,
-        log,
-        &mut acted,
-        &mut given,
-        &mut owners,
-        &mut counts,
-        &mut named,
-        &mut sorted,
-        &mut starts,
-        tokens,
-        actions,
-        operands,
-        levels,
-        labels,
-    )
-}
-
-fn tables_4096(
-    text: &[u8],
-    s: &[u64],
-    log: &[u64],
-    tokens: &mut [u64],
-    actions: &mut [u64],
-    operands: &mut [u64],
-    levels: &mut [u64],
-    labels: &mut [u64],
-) -> Reading
-    requires { ⌜ Logged (now text) (length (now tokens)) (now s) (now log) ⌝ }
-    requires { ⌜ length (now s) ≤ 4096 ⌝ }
-    ensures { λ r. ⌜ Reads (now (text .entry)) (lent (now (tokens .entry)) (now (actions .entry)) (now (operands .entry)) (now (levels .entry)) (now (labels .entry))) (lent (now (tokens .exit)) (now (actions .exit)) (now (operands .exit)) (now (levels .exit)) (now (labels .exit))) r ⌝ }
-{
-    let mut acted = [0u64; 4100];
-    let mut given = [0u64; 4100];
-    let mut owners = [0u64; 4100];
-    let mut counts = [0u64; 4100];
-    let mut named = [0u64; 4100];
-    let mut sorted = [0u64; 4100];
-    let mut starts = [0u64; 4100];
-    read_log(
-        text,
-        s,
-        log,
-        &mut acted,
-        &mut given,
-        &mut owners,
-        &mut counts,
-        &mut named,
-        &mut sorted,
-        &mut starts,
-        tokens,
-        actions,
-        operands,
-        levels,
-        labels,
-    )
-}
-
-fn tables_16384(
-    text: &[u8],
-    s: &[u64],
-    log: &[u64],
-    tokens: &mut [u64],
-    actions: &mut [u64],
-    operands: &mut [u64],
-    levels: &mut [u64],
-    labels: &mut [u64],
-) -> Reading
-    requires { ⌜ Logged (now text) (length (now tokens)) (now s) (now log) ⌝ }
-    requires { ⌜ length (now s) ≤ 16384 ⌝ }
-    ensures { λ r. ⌜ Reads (now (text .entry)) (lent (now (tokens .entry)) (now (actions .entry)) (now (operands .entry)) (now (levels .entry)) (now (labels .entry))) (lent (now (tokens .exit)) (now (actions .exit)) (now (operands .exit)) (now (levels .exit)) (now (labels .exit))) r ⌝ }
-{
-    let mut acted = [0u64; 16388];
-    let mut given = [0u64; 16388];
-    let mut owners = [0u64; 16388];
-    let mut counts = [0u64; 16388];
-    let mut named = [0u64; 16388];
-    let mut sorted = [0u64; 16388];
-    let mut starts = [0u64; 16388];
-    read_log(
-        text,
-        s,
-        log,
-        &mut acted,
-        &mut given,
-        &mut owners,
-        &mut counts,
-        &mut named,
-        &mut sorted,
-        &mut starts,
-        tokens,
-        actions,
-        operands,
-        levels,
-        labels,
-    )
-}
-
-fn tables_65536(
-    text: &[u8],
-    s: &[u64],
-    log: &[u64],
-    tokens: &mut [u64],
-    actions: &mut [u64],
-    operands: &mut [u64],
-    levels: &mut [u64],
-    labels: &mut [u64],
-) -> Reading
-    requires { ⌜ Logged (now text) (length (now tokens)) (now s) (now log) ⌝ }
-    ensures { λ r. ⌜ Reads (now (text .entry)) (lent (now (tokens .entry)) (now (actions .entry)) (now (operands .entry)) (now (levels .entry)) (now (labels .entry))) (lent (now (tokens .exit)) (now (actions .exit)) (now (operands .exit)) (now (levels .exit)) (now (labels .exit))) r ⌝ }
-{
-    let mut acted = [0u64; 65540];
-    let mut given = [0u64; 65540];
-    let mut owners = [0u64; 65540];
-    let mut counts = [0u64; 65540];
-    let mut named = [0u64; 65540];
-    let mut sorted = [0u64; 65540];
-    let mut starts = [0u64; 65540];
-    read_log(
-        text,
-        s,
-        log,
-        &mut acted,
-        &mut given,
-        &mut owners,
-        &mut counts,
-        &mut named,
-        &mut sorted,
-        &mut starts,
-        tokens,
-        actions,
-        operands,
-        levels,
-        labels,
-    )
-}
-
-// ---- scratch for the tokens and the log, by the length of the text: a small text does not pay for the scratch of a large one. The
-// tables of each size have a place for every fourth byte, which is ample for a patch; a text with more tokens takes the next size.
+// ---- scratch for the tokens and the log, by the length of the text: a small text does not pay for the scratch of a large one
 
 fn read_1024(
     text: &[u8],
@@ -233,21 +30,9 @@ fn read_1024(
     match parsing {
         Parsing::Refused(r) => Reading::Refused(r),
         Parsing::Events(n, e) => {
-            if 256 < n {
-                return read_4096(text, tokens, actions, operands, levels, labels);
-            }
             let words = &s[..n];
             let events = &log[..e];
-            tables_256(
-                text,
-                words,
-                events,
-                tokens,
-                actions,
-                operands,
-                levels,
-                labels,
-            )
+            read_log(text, words, events, tokens, actions, operands, levels, labels)
         }
     }
 }
@@ -271,21 +56,9 @@ fn read_4096(
     match parsing {
         Parsing::Refused(r) => Reading::Refused(r),
         Parsing::Events(n, e) => {
-            if 1024 < n {
-                return read_16384(text, tokens, actions, operands, levels, labels);
-            }
             let words = &s[..n];
             let events = &log[..e];
-            tables_1024(
-                text,
-                words,
-                events,
-                tokens,
-                actions,
-                operands,
-                levels,
-                labels,
-            )
+            read_log(text, words, events, tokens, actions, operands, levels, labels)
         }
     }
 }
@@ -309,21 +82,12 @@ fn read_16384(
     match parsing {
         Parsing::Refused(r) => Reading::Refused(r),
         Parsing::Events(n, e) => {
-            if 4096 < n {
-                return read_65536(text, tokens, actions, operands, levels, labels);
+            if text.len() < n {
+                return read_16384(text, tokens, actions, operands, levels, labels);
             }
             let words = &s[..n];
             let events = &log[..e];
-            tables_4096(
-                text,
-                words,
-                events,
-                tokens,
-                actions,
-                operands,
-                levels,
-                labels,
-            )
+            read_log(text, words, events, tokens, actions, operands, levels, labels)
         }
     }
 }
@@ -347,30 +111,12 @@ fn read_65536(
     match parsing {
         Parsing::Refused(r) => Reading::Refused(r),
         Parsing::Events(n, e) => {
+            if text.len() < n {
+                return read_65536(text, tokens, actions, operands, levels, labels);
+            }
             let words = &s[..n];
             let events = &log[..e];
-            if 16384 < n {
-                return tables_65536(
-                    text,
-                    words,
-                    events,
-                    tokens,
-                    actions,
-                    operands,
-                    levels,
-                    labels,
-                );
-            }
-            tables_16384(
-                text,
-                words,
-                events,
-                tokens,
-                actions,
-                operands,
-                levels,
-                labels,
-            )
+            read_log(text, words, events, tokens, actions, operands, levels, labels)
         }
     }
 }

@@ -4,9 +4,11 @@ use names::ActionName;
 use tokens::Token;
 use tokens::token_of;
 ghost use mathlib.Core.Path.{_≡_};
+ghost use Prim.Native.Nat.{_<_, _≤_};
 ghost use Rattle.tokens.specs.Tokens.{tokenOf};
-ghost use lib.ListN.{getD};
+ghost use lib.ListN.{getD, set};
 ghost use Rattle.entries.specs.Entries.{actionOf, operandOf, blockOf, netOf, levelOf, labelOf};
+ghost use Rattle.entries.specs.Fields.{actionFields, actionLevel, operandFields, levelFields, heldIn, labelFields};
 
 // Its operands are `count` entries of the operand table, from `first` on.
 pub struct Action {
@@ -157,4 +159,73 @@ pub fn label_in(table: &[u64], at: usize) -> Label
     ensures { λ r. ⌜ r ≡ labelOf (getD (now (table .entry)) at 0) ⌝ }
 {
     label_of(word_at(table, at))
+}
+
+// ---- entries written, field by field: past the table's end nothing is
+
+fn put(table: &mut [u64], at: usize, word: u64)
+    ensures { λ _. ⌜ now (table .exit) ≡ set (now (table .entry)) at word ⌝ }
+{
+    if at < table.len() {
+        table[at] = word;
+    }
+}
+
+pub fn put_action(table: &mut [u64], at: usize, number: u64, level: usize, first: usize, count: usize)
+    requires { ⌜ (number < 1048576) × ((level < 131072) × ((first < 8589934592) × (count < 8589934592))) ⌝ }
+    ensures { λ _. ⌜ now (table .exit) ≡ set (now (table .entry)) at (actionFields number level first count) ⌝ }
+{
+    let word = number % 4096 * 2251799813685248
+        + level as u64 * 17179869184
+        + first as u64 * 131072
+        + count as u64;
+    put(table, at, word);
+}
+
+// The level of the action at a place.
+pub fn action_level(table: &[u64], at: usize) -> usize
+    ensures { λ r. ⌜ r ≡ actionLevel (getD (now (table .entry)) at 0) ⌝ }
+    ensures { λ r. ⌜ r < 131072 ⌝ }
+{
+    (word_at(table, at) / 17179869184 % 131072) as usize
+}
+
+pub fn put_operand(table: &mut [u64], at: usize, action: usize, token: u64)
+    requires { ⌜ (action ≤ 65536) × (token < 1048576) ⌝ }
+    ensures { λ _. ⌜ now (table .exit) ≡ set (now (table .entry)) at (operandFields action token) ⌝ }
+{
+    put(table, at, action as u64 * 1099511627776 + token);
+}
+
+// The fields of a level as numbers: its block's, how many actions it has, its net's.
+pub struct Held {
+    pub block: u64,
+    pub actions: u64,
+    pub net: u64,
+}
+
+pub fn held_in(table: &[u64], at: usize) -> Held
+    ensures { λ r. ⌜ r ≡ heldIn (getD (now (table .entry)) at 0) ⌝ }
+    ensures { λ r. ⌜ (r .block < 1048576) × ((r .actions < 1048576) × (r .net < 1048576)) ⌝ }
+{
+    let word = word_at(table, at);
+    Held {
+        block: word / 1099511627776 % 1048576,
+        actions: word / 1048576 % 1048576,
+        net: word % 1048576,
+    }
+}
+
+pub fn put_level(table: &mut [u64], at: usize, block: u64, actions: u64, net: u64)
+    requires { ⌜ (block < 4194304) × ((actions ≤ 1048576) × (net < 1099511627776)) ⌝ }
+    ensures { λ _. ⌜ now (table .exit) ≡ set (now (table .entry)) at (levelFields block actions net) ⌝ }
+{
+    put(table, at, block * 1099511627776 + actions * 1048576 + net);
+}
+
+pub fn put_label(table: &mut [u64], at: usize, level: u64, token: u64, position: u64)
+    requires { ⌜ (level < 1048576) × ((token < 1048576) × (position < 1048576)) ⌝ }
+    ensures { λ _. ⌜ now (table .exit) ≡ set (now (table .entry)) at (labelFields level token position) ⌝ }
+{
+    put(table, at, level * 1099511627776 + position * 1048576 + token);
 }

@@ -1,3 +1,2 @@
 pub mod Rows
-pub mod Hand
-pub mod Scratch
+pub mod Handing

@@ -50,10 +50,31 @@ none [] (e ∷ es) n h k s = omega (arith, n)
 none (p ∷ ps) [] n h k s = omega (arith, n)
 none (p ∷ ps) (e ∷ es) n h k s = nowhere p e ps es (lowestShort ps es) (ltb p e) refl (none ps es (omega (arith, n))) h k s
 
--- `short_table`, row by row
+-- a table more changes nothing for those before it
 module _ (a b c d e f g h : ℕ) where
+  placed : (j : ℕ) → j < 3 → getD (a ∷ b ∷ c ∷ []) j 0 ≡ getD (a ∷ b ∷ c ∷ d ∷ []) j 0
+  placed zero l = refl
+  placed (suc zero) l = refl
+  placed (suc (suc zero)) l = refl
+  placed (suc (suc (suc j))) l = absurd (omega arith)
+
+  pub wider : (k : ℕ) → k < 3 → Lowest (a ∷ b ∷ c ∷ []) (e ∷ f ∷ g ∷ []) k → Lowest (a ∷ b ∷ c ∷ d ∷ []) (e ∷ f ∷ g ∷ h ∷ []) k
+  wider k l w =
+      record {
+        short = omega (arith, w .short, placed k l, entries k l);
+        lowest = λ j i s. w .lowest j i (omega (arith, s, placed j (omega arith), entries j (omega arith)));
+      }
+    where
+      entries : (j : ℕ) → j < 3 → getD (e ∷ f ∷ g ∷ []) j 0 ≡ getD (e ∷ f ∷ g ∷ h ∷ []) j 0
+      entries zero l = refl
+      entries (suc zero) l = refl
+      entries (suc (suc zero)) l = refl
+      entries (suc (suc (suc j))) l = absurd (omega arith)
+
+-- `short_table`, row by row
+module _ (a b c e f g : ℕ) where
   abbrev lowest : ℕ
-  lowest = lowestShort (a ∷ b ∷ c ∷ d ∷ []) (e ∷ f ∷ g ∷ h ∷ [])
+  lowest = lowestShort (a ∷ b ∷ c ∷ []) (e ∷ f ∷ g ∷ [])
 
   pub short₀ : a < e → 0 ≡ lowest
   short₀ i = simp (lt-ltb a e i)
@@ -66,9 +87,5 @@ module _ (a b c d e f g h : ℕ) where
       pub short₂ : c < g → 2 ≡ lowest
       short₂ k = simp (le-ltb a e i, le-ltb b f j, lt-ltb c g k)
 
-      module _ (k : g ≤ c) where
-        pub short₃ : d < h → 3 ≡ lowest
-        short₃ l = simp (le-ltb a e i, le-ltb b f j, le-ltb c g k, lt-ltb d h l)
-
-        pub short₄ : h ≤ d → 4 ≡ lowest
-        short₄ l = simp (le-ltb a e i, le-ltb b f j, le-ltb c g k, le-ltb d h l)
+      pub short₃ : g ≤ c → 3 ≡ lowest
+      short₃ k = simp (le-ltb a e i, le-ltb b f j, le-ltb c g k)

@@ -16,8 +16,8 @@ use Rattle.entries.specs.declared.Net.{Net}
 use Rattle.entries.specs.declared.Net.the-variants as N
 use Rattle.entries.specs.Entries.{netNumber}
 use Rattle.pcode.specs.Deltas.{deltaOf, fixedDelta, plusOne, minusOne, minusTwo, minusThree, undetermined, functions}
-use Rattle.nets.specs.Nets.{Move, Covers, movedBy, moveAt, netAfter, Summable, Summed}
-use Rattle.nets.proofs.Numbers.{InReach, net-small}
+use Rattle.nets.specs.Nets.{Covers, movedBy}
+use Rattle.nets.proofs.Numbers.{InReach}
 
 -- ---- one delta: from -3 to the number of values, or 1
 
@@ -61,11 +61,6 @@ Bounded i s (N.Height (pos h)) = h ≤ i + s
 Bounded i s (N.Height (negsuc h)) = h < 3 * i
 Bounded i s (N.Undetermined a) = a < i
 
-widen : (i s r : ℕ) (t : Net) → s ≤ r → Bounded i s t → Bounded (suc i) r t
-widen i s r (N.Height (pos h)) l b = omega arith
-widen i s r (N.Height (negsuc h)) l b = omega arith
-widen i s r (N.Undetermined a) l b = omega arith
-
 difference : (i s a b : ℕ) → a ≤ i + s → b ≤ 3 * i → Bounded i s (N.Height (subℕ a b))
 difference i s a b h k = by (ltb a b) refl
   where
@@ -79,48 +74,12 @@ sum i s r (pos a) (negsuc b) l h k = difference (suc i) r a (suc b) (omega arith
 sum i s r (negsuc a) (pos b) l h k = difference (suc i) r b (suc a) (omega arith) (omega arith)
 sum i s r (negsuc a) (negsuc b) l h k = omega arith
 
-moved-bounded : (i s r : ℕ) (o : Option ℤ) (t : Net) → s ≤ r → Bounded i s t → NearIf (r - s) o → Bounded (suc i) r (movedBy o i t)
+pub moved-bounded : (i s r : ℕ) (o : Option ℤ) (t : Net) → s ≤ r → Bounded i s t → NearIf (r - s) o → Bounded (suc i) r (movedBy o i t)
 moved-bounded i s r o (N.Undetermined a) l b k = omega arith
 moved-bounded i s r none (N.Height h) l b k = omega arith
 moved-bounded i s r (some z) (N.Height h) l b k = sum i s r h z l b k
 
--- deltas that are near, action by action; `at` tells how many operands the actions before have
-module _ (f : ℕ → Move) (at : ℕ → ℕ) (n : ℕ) (ascends : (i : ℕ) → i < n → at i ≤ at (suc i))
-    (near : (i : ℕ) → i < n → NearIf (at (suc i) - at i) (f i .delta)) where
-  pub after-bounded : (k i : ℕ) → i ≤ n → Bounded i (at i) (netAfter f k i)
-  after-bounded k zero l = omega arith
-  after-bounded k (suc i) l =
-      let b = after-bounded k i (omega arith) in
-      either (Bounded (suc i) (at (suc i))) (eqb (f i .level) k) _ _
-      (moved-bounded i (at i) (at (suc i)) (f i .delta) (netAfter f k i) (ascends i l) b (near i l))
-      (widen i (at i) (at (suc i)) (netAfter f k i) (ascends i l) b)
-
-in-reach : (i s : ℕ) (t : Net) → i ≤ 65536 → s ≤ 65536 → Bounded i s t → InReach t
+pub in-reach : (i s : ℕ) (t : Net) → i ≤ 65536 → s ≤ 65536 → Bounded i s t → InReach t
 in-reach i s (N.Height (pos h)) l k b = omega arith
 in-reach i s (N.Height (negsuc h)) l k b = omega arith
 in-reach i s (N.Undetermined a) l k b = omega arith
-
-module _ (text s actions operands starts : List ℕ) (n levels : ℕ) (nets : List ℕ) (m : Summable actions n starts levels nets) where
-  pub move-near : (i : ℕ) → NearIf (getD starts (suc i) 0 - getD starts i 0) (moveAt text s actions operands starts i .delta)
-  unfolding moveAt
-  move-near i = delta-near _ _ _
-
-  pub net-bounded : (k i : ℕ) → i ≤ n → Bounded i (getD starts i 0) (netAfter (moveAt text s actions operands starts) k i)
-  net-bounded = after-bounded (moveAt text s actions operands starts) (λ i. getD starts i 0) n (m .ascending) (λ i l. move-near i)
-
-  -- no action's operands start behind the last
-  pub starts-below : (i : ℕ) → i ≤ n → getD starts i 0 ≤ 65536
-  starts-below i l = by (n - i) i (omega arith)
-    where
-      by : (d i : ℕ) → i + d ≡ n → getD starts i 0 ≤ 65536
-      by zero i e = let q : i ≡ n = omega arith in rw q (m .total)
-      by (suc d) i e = omega (arith, m .ascending i (omega arith), by d (suc i) (omega arith))
-
-  pub net-in-reach : (k i : ℕ) → i ≤ n → InReach (netAfter (moveAt text s actions operands starts) k i)
-  net-in-reach k i l = in-reach i (getD starts i 0) (netAfter (moveAt text s actions operands starts) k i) (omega (arith, m .few)) (starts-below i l) (net-bounded k i l)
-
-  pub net-below : (k : ℕ) → netNumber (netAfter (moveAt text s actions operands starts) k n) < 1048576
-  net-below k = net-small (netAfter (moveAt text s actions operands starts) k n) (net-in-reach k n (omega arith))
-
-  pub summed-below : (after : List ℕ) → Summed (moveAt text s actions operands starts) n levels after → (k : ℕ) → k < levels → getD after k 0 < 1048576
-  summed-below after d k h = omega (arith, d .sums k h, net-below k)

@@ -1,3 +1,4 @@
 pub mod Bounds
 pub mod Numbers
 pub mod Turns
+pub mod Next

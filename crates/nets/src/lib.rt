@@ -1,5 +1,5 @@
-// The net of each level, from the entries of its actions and operands.
-use actions::action_at;
+// The net of a level behind an action.
+use names::ActionName;
 use entries::operand_in;
 use entries::token_in;
 use pcode::StackDelta;
@@ -8,24 +8,12 @@ use tokens::raw_text;
 ghost use mathlib.Core.Path.{_≡_};
 ghost use mathlib.Core.Option.{some};
 ghost use Prim.Native.Nat.{_<_, _≤_};
-ghost use lib.ListN.{length};
 ghost use Rattle.entries.specs.Entries.{netOf, netNumber};
-ghost use Rattle.nets.specs.Nets.{firstIsEmpty, Covers, raisedBy, told, movedBy, moveAt, Movable, movedIn, Cleared, Summable, Summed};
-
-// Every level's net is the height 0.
-fn clear(nets: &mut [u64], levels: usize)
-    requires { ⌜ levels ≤ length (now nets) ⌝ }
-    ensures { λ _. ⌜ Cleared levels (now (nets .exit)) ⌝ }
-{
-    let mut k = 0;
-    while k < levels {
-        nets[k] = 196608;
-        k += 1;
-    }
-}
+ghost use Rattle.nets.specs.Nets.{firstIsEmpty, Covers, raisedBy, told, movedBy, nextNet};
+ghost use Rattle.pcode.specs.Deltas.{deltaOf};
 
 // Whether there is a first operand and its raw text is empty.
-fn first_is_empty(text: &[u8], s: &[u64], operands: &[u64], from: usize, to: usize) -> bool
+pub fn first_is_empty(text: &[u8], s: &[u64], operands: &[u64], from: usize, to: usize) -> bool
     ensures { λ r. ⌜ r ≡ firstIsEmpty (now (text .entry)) (now (s .entry)) (now (operands .entry)) from to ⌝ }
 {
     if to <= from {
@@ -59,47 +47,15 @@ fn moved(net: u64, a: usize, d: StackDelta) -> u64
     }
 }
 
-// Action i moves its own level's net.
-fn move_net(
-    text: &[u8],
-    s: &[u64],
-    actions: &[u64],
-    operands: &[u64],
-    starts: &[u64],
-    i: usize,
-    nets: &mut [u64],
-)
-    requires { ⌜ Movable (now actions) (now starts) (now nets) i ⌝ }
-    ensures { λ _. ⌜ now (nets .exit) ≡ movedIn (moveAt (now (text .entry)) (now (s .entry)) (now (actions .entry)) (now (operands .entry)) (now (starts .entry)) i) i (now (nets .entry)) ⌝ }
+// The net behind action a, which has so many operands. (No number below 3 comes up: there are not so many actions.)
+pub fn next_net(net: u64, a: usize, name: ActionName, values: usize, empty: bool) -> u64
+    requires { ⌜ (net < 1048576) × ((a ≤ 65536) × (values ≤ 65536)) ⌝ }
+    ensures { λ r. ⌜ r ≡ nextNet net a (deltaOf name values empty) ⌝ }
+    ensures { λ r. ⌜ r < 1099511627776 ⌝ }
 {
-    let word = actions[i];
-    let from = starts[i] as usize;
-    let to = starts[i + 1] as usize;
-    let name = action_at((word / 2251799813685248) as usize);
-    let empty = first_is_empty(text, s, operands, from, to);
-    let d = delta(name, to - from, empty);
-    let level = (word / 17179869184 % 131072) as usize;
-    nets[level] = moved(nets[level], i, d);
-}
-
-// The nets of the levels that the first n actions are in.
-pub fn sum_nets(
-    text: &[u8],
-    s: &[u64],
-    actions: &[u64],
-    n: usize,
-    operands: &[u64],
-    starts: &[u64],
-    levels: usize,
-    nets: &mut [u64],
-)
-    requires { ⌜ Summable (now actions) n (now starts) levels (now nets) ⌝ }
-    ensures { λ _. ⌜ Summed (moveAt (now (text .entry)) (now (s .entry)) (now (actions .entry)) (now (operands .entry)) (now (starts .entry))) n levels (now (nets .exit)) ⌝ }
-{
-    clear(nets, levels);
-    let mut i = 0;
-    while i < n {
-        move_net(text, s, actions, operands, starts, i, nets);
-        i += 1;
+    if net < 3 {
+        return net;
     }
+    let d = delta(name, values, empty);
+    moved(net, a, d)
 }

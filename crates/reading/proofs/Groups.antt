@@ -1,46 +1,32 @@
--- Operands grouped by action and labels by level: from the order of the text to that of a reading. Assumes nothing.
+-- Labels grouped by level: from the order of the text to that of a reading. Assumes nothing.
 use mathlib.Core.Path.{_≡_, refl, sym, ap, _∙_}
-use mathlib.Core.List.{List, [], _∷_, _++_, map, append-assoc, append-nil}
+use mathlib.Core.List.{List, [], _∷_, _++_, append-assoc}
 use mathlib.Core.Logic.{_⊎_, inl, inr}
 use Prim.Native.Nat.{ℕ, suc, _+_, _≤_, _<_}
 use native.Mathlib.Decide.{ℕ-discrete}
 use native.Mathlib.Omega.{arith}
 use lib.ListN.{length}
 use Rattle.grammar.specs.Operands.{Lexeme, placeOf}
-use Rattle.grammar.specs.Grammar.{Part, body, try, catch, finally, Items, done, label, action, Blocks, no-blocks, block}
+use Rattle.grammar.specs.Grammar.{Items, done, label, action, Blocks, no-blocks, block}
 use Rattle.grammar.specs.Reading.{Opened, Acted, ownActions, allActions, actionsInside, openedOf, openedIn, actedOf, actedIn}
-use Rattle.grammar.proofs.Events.{leading, waiting}
 use Rattle.grouping.specs.Grouping.{having}
-use Rattle.tabling.specs.Tabling.{labelWord}
-use Rattle.reading.specs.Trees.{All, AllOf, AllIn, entry, givenOf, givenIn, namedOf, namedIn, IsLow}
+use Rattle.entries.specs.Fields.{labelFields}
+use Rattle.reading.specs.Trees.{All, AllOf, AllIn, namedOf, namedIn, IsLow}
 use Rattle.reading.proofs.Runs.{having-append, OfKey, having-other, swap, Every, every-append, runs, runs-append, runs-low}
-use Rattle.reading.proofs.Trees.{low-waiting, opened-count, opened-counts, acted-count, acted-counts}
+use Rattle.reading.proofs.Trees.{opened-count, opened-counts}
 
--- ---- the runs: an action's operands, a level's own labels
-
-abbrev pub operandRun : ℕ → Acted → List ℕ
-operandRun a l = map (entry a) (l .operands)
+-- ---- the runs: a level's own labels
 
 abbrev pub ownWords : ℕ → ℕ → Items → List ℕ
 ownWords ℓ p done = []
-ownWords ℓ p (label t x) = labelWord ℓ p (placeOf t) ∷ ownWords ℓ p x
+ownWords ℓ p (label t x) = labelFields ℓ (placeOf t) p ∷ ownWords ℓ p x
 ownWords ℓ p (action n os bs x) = ownWords ℓ (suc p) x
 
 abbrev pub labelRun : ℕ → Opened → List ℕ
 labelRun ℓ l = ownWords ℓ 0 (l .items)
 
-abbrev pub GivenLow : Acted → Type 0
-GivenLow l = All IsLow (l .operands)
-
 abbrev pub NamedLow : Opened → Type 0
 NamedLow l = AllOf IsLow (l .items) × (ownActions (l .items) < 1048576)
-
-entries-own : (a : ℕ) (os : List Lexeme) → All IsLow os → OfKey a (map (entry a) os)
-entries-own a [] h = tt
-entries-own a (t ∷ os) h = let i = h .0 in (omega (arith, i), entries-own a os (h .1))
-
-pub operands-own : (a : ℕ) (l : Acted) → GivenLow l → OfKey a (operandRun a l)
-operands-own a l h = entries-own a (l .operands) h
 
 words-own : (ℓ p : ℕ) (x : Items) → AllOf IsLow x → p + ownActions x < 1048576 → OfKey ℓ (ownWords ℓ p x)
 words-own ℓ p done h g = tt
@@ -92,8 +78,6 @@ mutual
         every-append NamedLow (openedOf a x) (openedIn o a′ bs) (opened-low x a (h .0) (omega (arith, g))) (opened-lows bs o a′ (h .1) (omega (arith, g))),
       )
 
--- ---- operands: a Try's target is written behind its try block
-
 -- what agrees on a key, with the same behind it, and before it
 module _ (k : ℕ) where
   both : (a b c d : List ℕ) → having k a ≡ having k b → having k c ≡ having k d → having k (a ++ c) ≡ having k (b ++ d)
@@ -117,46 +101,6 @@ module _ (k : ℕ) where
         | no e ↦ inr (having-other o k b h (λ q. e (sym q)))
       ]
 
-  -- operands before a block's, or behind them
-  led : (p : Part) (o : ℕ) (os : List Lexeme) (g r : List ℕ) → All IsLow os → (k ≡ o → having k g ≡ [])
-      → having k (map (entry o) (leading p os) ++ (g ++ (map (entry o) (waiting p os) ++ r))) ≡ having k (map (entry o) os ++ (g ++ r))
-  led body o os g r h e = refl
-  led try o os g r h e = apart g (map (entry o) os) r (divided o g (map (entry o) os) (entries-own o os h) e)
-  led catch o os g r h e = refl
-  led finally o os g r h e = refl
-
-  mutual
-    pub givens-alike : (x : Items) (ℓ m a : ℕ) → AllOf IsLow x → having k (givenOf a x) ≡ having k (runs operandRun a (actedOf ℓ m x))
-    givens-alike done ℓ m a h = refl
-    givens-alike (label t x) ℓ m a h = givens-alike x ℓ m a (h .1)
-    givens-alike (action n os bs x) ℓ m a h =
-        let m′ = m + length (openedIn 0 0 bs) in
-        let a′ = suc a + actionsInside bs in
-        let e = acted-counts bs m in
-        both (givenIn a (suc a) os bs) (map (entry a) os ++ runs operandRun (suc a) (actedIn m bs)) (givenOf a′ x) (runs operandRun a′ (actedOf ℓ m′ x))
-        (givens-in bs os m a (suc a) (omega arith) (h .0) (h .1 .0)) (givens-alike x ℓ m′ a′ (h .1 .1))
-        ∙ ap (having k) (append-assoc (map (entry a) os) (runs operandRun (suc a) (actedIn m bs)) (runs operandRun a′ (actedOf ℓ m′ x)))
-        ∙ ap (λ (q : ℕ). having k (map (entry a) os ++ (runs operandRun (suc a) (actedIn m bs) ++ runs operandRun (suc a + q) (actedOf ℓ m′ x)))) (sym e)
-        ∙ ap (λ (q : List ℕ). having k (map (entry a) os ++ q)) (sym (runs-append operandRun (suc a) (actedIn m bs) (actedOf ℓ m′ x)))
-
-    givens-in : (bs : Blocks) (os : List Lexeme) (m o a : ℕ) → o < a → All IsLow os → AllIn IsLow bs
-        → having k (givenIn o a os bs) ≡ having k (map (entry o) os ++ runs operandRun a (actedIn m bs))
-    givens-in no-blocks os m o a l h g = ap (having k) (sym (append-nil (map (entry o) os)))
-    givens-in (block p x bs) os m o a l h g =
-        let m′ = suc m + length (openedOf 0 x) in
-        let a′ = a + allActions x in
-        let e = acted-count x m (suc m) in
-        let inner = runs operandRun a (actedOf m (suc m) x) in
-        let behind = runs operandRun a′ (actedIn m′ bs) in
-        let os₁ = map (entry o) (leading p os) in
-        let os₂ = map (entry o) (waiting p os) in
-        both os₁ os₁ (givenOf a x ++ givenIn o a′ (waiting p os) bs) (inner ++ (os₂ ++ behind)) refl
-        (both (givenOf a x) inner (givenIn o a′ (waiting p os) bs) (os₂ ++ behind)
-        (givens-alike x m (suc m) a (g .0)) (givens-in bs (waiting p os) m′ o a′ (omega (arith, l)) (low-waiting p os h) (g .1)))
-        ∙ led p o os inner behind h (λ q. runs-low operandRun operands-own k a (actedOf m (suc m) x) (acted-all IsLow x m (suc m) (g .0)) (omega (arith, q, l)))
-        ∙ ap (λ (q : ℕ). having k (map (entry o) os ++ (inner ++ runs operandRun (a + q) (actedIn m′ bs)))) (sym e)
-        ∙ ap (λ (q : List ℕ). having k (map (entry o) os ++ q)) (sym (runs-append operandRun a (actedOf m (suc m) x) (actedIn m′ bs)))
-
   -- ---- labels: those of a level before those of its blocks
 
   mutual
@@ -164,7 +108,7 @@ module _ (k : ℕ) where
         → having k (namedOf ℓ m p x) ≡ having k (ownWords ℓ p x ++ runs labelRun m (openedOf a x))
     names-alike done ℓ m a p l h g = refl
     names-alike (label t x) ℓ m a p l h g =
-        both (labelWord ℓ p (placeOf t) ∷ []) (labelWord ℓ p (placeOf t) ∷ []) (namedOf ℓ m p x) (ownWords ℓ p x ++ runs labelRun m (openedOf a x)) refl
+        both (labelFields ℓ (placeOf t) p ∷ []) (labelFields ℓ (placeOf t) p ∷ []) (namedOf ℓ m p x) (ownWords ℓ p x ++ runs labelRun m (openedOf a x)) refl
         (names-alike x ℓ m a p l (h .1) g)
     names-alike (action n os bs x) ℓ m a p l h g =
         let m′ = m + length (openedIn 0 0 bs) in

@@ -15,7 +15,7 @@ module _ {P Q : Lexeme → Type 0} (f : (t : Lexeme) → P t → Q t) where
     weaker-of (label t x) h = (f t (h .0), weaker-of x (h .1))
     weaker-of (action n os bs x) h = (weaker os (h .0), (weaker-in bs (h .1 .0), weaker-of x (h .1 .1)))
 
-    weaker-in : (bs : Blocks) → AllIn P bs → AllIn Q bs
+    pub weaker-in : (bs : Blocks) → AllIn P bs → AllIn Q bs
     weaker-in no-blocks h = tt
     weaker-in (block p x bs) h = (weaker-of x (h .0), weaker-in bs (h .1))
 

@@ -1,7 +1,7 @@
 -- What leads from a text to the tables of its reading: its tokens and the log of its tree, then its tables, then the lent ones.
 use mathlib.Core.Path.{_≡_}
-use mathlib.Core.List.{List, _∷_, map}
-use Prim.Native.Nat.{ℕ, suc, _≤_, _<_}
+use mathlib.Core.List.{List, map}
+use Prim.Native.Nat.{ℕ, _≤_, _<_}
 use lib.ListN.{length, take, getD}
 use Rattle.answers.specs.Answers.{accepted, refusal}
 use Rattle.lexer.specs.Lexing.{lexText}
@@ -9,19 +9,17 @@ use Rattle.tokens.specs.declared.Token.{Token}
 use Rattle.tokens.specs.Tokens.{wordOf}
 use Rattle.grammar.specs.Operands.{Lexeme, numbered, placeOf}
 use Rattle.grammar.specs.Grammar.{Items, Text}
-use Rattle.grammar.specs.Reading.{ownActions, allActions, openedOf, opened, actedOf, labelsFrom, readingOf}
+use Rattle.grammar.specs.Reading.{readingOf}
 use Rattle.grammar.specs.Nets.{nets}
 use Rattle.grammar.specs.Refusals.{Outcome, Answers}
 use Rattle.grammar.proofs.Sizes.{size}
 use Rattle.grouping.specs.Grouping.{Below}
 use Rattle.operands.specs.Lexemes.{lexemeOf}
 use Rattle.parser.specs.Parsed.{logOf}
-use Rattle.tabling.specs.declared.State.{State}
-use Rattle.tabling.specs.Tabling.{Rooms}
 use Rattle.reading.specs.declared.Parsing.{Parsing}
 use Rattle.reading.specs.declared.Parsing.the-variants as P
-use Rattle.reading.specs.Trees.{AllOf, actedWord, levelOwner, levelCount, givenOf}
-use Rattle.reading.specs.Tables.{front, actionWords, operandWords, levelWords, labelEntryWord}
+use Rattle.reading.specs.Trees.{AllOf}
+use Rattle.reading.specs.Tables.{front, actionWords, operandWords, levelWords}
 
 -- ---- a text's tokens and its tree
 
@@ -53,20 +51,6 @@ unfoldable pub Parses : List ℕ → ℕ → List ℕ → List ℕ → Parsing �
 Parses text room s log (P.Refused r) = (places : List ℕ) → Answers room places text (refusal r)
 Parses text room s log (P.Events n e) = Logged text room (take n s) (take e log) × ((n ≤ length s) × (e ≤ length log))
 
--- ---- its tables
-
--- the words at the front of each table
-pub record Arranged (x : Items) (xs os ws cs ls : List ℕ) (t : State) : Type 0 where
-  pub actions : take (t .actions) xs ≡ map actedWord (actedOf 0 1 x)
-  pub operands : take (t .operands) os ≡ givenOf 0 x
-  pub owners : take (t .levels) ws ≡ 0 ∷ map levelOwner (openedOf 0 x)
-  pub counts : take (t .levels) cs ≡ ownActions x ∷ map levelCount (openedOf 0 x)
-  pub labels : take (t .labels) ls ≡ map labelEntryWord (labelsFrom 0 (opened x))
-  pub all-actions : t .actions ≡ allActions x
-  pub all-operands : t .operands ≡ length (givenOf 0 x)
-  pub all-levels : t .levels ≡ length (opened x)
-  pub all-labels : t .labels ≡ length (labelsFrom 0 (opened x))
-
 -- what arranging labels asks: keys below the number of levels, and places
 pub record LabelsAsked (n levels : ℕ) (labels sorted starts : List ℕ) : Type 0 where
   pub inside : n ≤ length labels
@@ -76,39 +60,9 @@ pub record LabelsAsked (n levels : ℕ) (labels sorted starts : List ℕ) : Type
   pub few : n ≤ 65536
   pub keys : Below levels (take n labels)
 
--- what arranging asks: the log of a tree, and places
-pub record Arrangeable (text s log xs os ws cs ls sorted starts : List ℕ) : Type 0 where
-  pub tree : Items
-  pub of : Known text s tree
-  pub log-of : log ≡ logOf tree
-  pub rooms : Rooms (length log) xs os ws cs ls
-  pub sorted-room : length log ≤ length sorted
-  pub starts-room : suc (length log) < length starts
-
--- of whatever tree it is the log
-abbrev pub Arranges : (text s log xs os ws cs ls : List ℕ) → State → Type 0
-Arranges text s log xs os ws cs ls t = (x : Items) → Known text s x → log ≡ logOf x → Arranged x xs os ws cs ls t
-
 -- ---- the lent tables
 
 pub record Filled (x : Items) (xs os ls xs′ os′ ls′ : List ℕ) : Type 0 where
   pub actions : xs′ ≡ front (actionWords (readingOf x)) xs
   pub operands : os′ ≡ front (operandWords (readingOf x)) os
   pub levels : ls′ ≡ front (levelWords (readingOf x) (nets x)) ls
-
--- what filling asks: the tables of a tree, and places
-pub record Fillable (text s xs os ws cs ns starts actions operands levels : List ℕ) (t : State) : Type 0 where
-  pub tree : Items
-  pub labels : List ℕ
-  pub of : Known text s tree
-  pub arranged : Arranged tree xs os ws cs labels t
-  pub nets-room : t .levels ≤ length ns
-  pub starts-room : t .actions < length starts
-  pub actions-room : t .actions ≤ length actions
-  pub operands-room : t .operands ≤ length operands
-  pub levels-room : t .levels ≤ length levels
-
--- of whatever tree they are the tables
-abbrev pub Fills : (text s xs os ws cs actions operands levels actions′ operands′ levels′ : List ℕ) → State → Type 0
-Fills text s xs os ws cs actions operands levels actions′ operands′ levels′ t =
-    (x : Items) (labels : List ℕ) → Known text s x → Arranged x xs os ws cs labels t → Filled x actions operands levels actions′ operands′ levels′

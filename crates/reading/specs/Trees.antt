@@ -1,48 +1,17 @@
 -- What is in a tree, as words in the order of the text, and what holds of every token in it.
-use mathlib.Core.List.{List, [], _∷_, _++_, map}
-use mathlib.Core.Option.{Option, none, some}
+use mathlib.Core.List.{List, [], _∷_, _++_}
 use Prim.Native.Nat.{ℕ, suc, _+_, _<_}
 use lib.ListN.{length}
-use Rattle.actions.specs.Numbers.{numberOf}
 use Rattle.grammar.specs.Operands.{Lexeme, placeOf}
 use Rattle.grammar.specs.Grammar.{Items, done, label, action, Blocks, no-blocks, block}
-use Rattle.grammar.specs.Reading.{Owner, Opened, Acted, ownActions, allActions, actionsInside, openedOf, openedIn}
-use Rattle.grammar.proofs.Events.{leading, waiting}
-use Rattle.operands.specs.Log.{partNumber}
-use Rattle.tabling.specs.Tabling.{actionWord, operandWord, labelWord, ownerWord}
-
-abbrev pub actedWord : Acted → ℕ
-actedWord l = actionWord (numberOf (l .name)) (l .level)
-
-abbrev pub ownerNumber : Option Owner → ℕ
-ownerNumber none = 0
-ownerNumber (some o) = ownerWord (o .action) (partNumber (o .part))
-
-abbrev pub levelOwner : Opened → ℕ
-levelOwner l = ownerNumber (l .owner)
-
-abbrev pub levelCount : Opened → ℕ
-levelCount l = ownActions (l .items)
-
-abbrev pub entry : ℕ → Lexeme → ℕ
-entry o t = operandWord o (placeOf t)
-
-abbrev mutual
-  -- operands, the next action being a
-  pub givenOf : ℕ → Items → List ℕ
-  givenOf a done = []
-  givenOf a (label t x) = givenOf a x
-  givenOf a (action n os bs x) = givenIn a (suc a) os bs ++ givenOf (suc a + actionsInside bs) x
-
-  pub givenIn : ℕ → ℕ → List Lexeme → Blocks → List ℕ
-  givenIn o a os no-blocks = map (entry o) os
-  givenIn o a os (block p x bs) = map (entry o) (leading p os) ++ (givenOf a x ++ givenIn o (a + allActions x) (waiting p os) bs)
+use Rattle.grammar.specs.Reading.{openedOf, openedIn}
+use Rattle.entries.specs.Fields.{labelFields}
 
 abbrev mutual
   -- labels of level ℓ and of its blocks, of which the next is level m
   pub namedOf : ℕ → ℕ → ℕ → Items → List ℕ
   namedOf ℓ m p done = []
-  namedOf ℓ m p (label t x) = labelWord ℓ p (placeOf t) ∷ namedOf ℓ m p x
+  namedOf ℓ m p (label t x) = labelFields ℓ (placeOf t) p ∷ namedOf ℓ m p x
   namedOf ℓ m p (action n os bs x) = namedIn m bs ++ namedOf ℓ (m + length (openedIn 0 0 bs)) (suc p) x
 
   pub namedIn : ℕ → Blocks → List ℕ

@@ -6,19 +6,22 @@ use Rattle.as2_pcode.proofs.Scratch as laws
 use Rattle.as2_pcode.proofs.read_4096.Statement.{statement}
 use Rattle.as2_pcode.proofs.read_4096.Tie as tie
 
+words : tie.Need-array-share-prefix-s
+words c = laws.parsed _ _ _ _ _ (c .before .before .before .before .before .parse-text .ensures) _ _ (c .before .parsing2 .given .1) .1 .0
+
 words-long : tie.Need-slice-aggregate-words
-words-long c = laws.words-long _ _ _ _ _ (c .before .before .before .before .before .before .before .parse-text .ensures) _ _ (c .before .before .before .parsing2 .given .1)
+words-long c = laws.words-long _ _ _ _ _ (c .before .before .before .before .before .before .parse-text .ensures) _ _ (c .before .before .parsing2 .given .1)
 
 events : tie.Need-array-share-prefix-log
-events c = laws.parsed _ _ _ _ _ (c .before .before .before .before .before .before .before .parse-text .ensures) _ _ (c .before .before .before .parsing2 .given .1) .1 .1
+events c = laws.parsed _ _ _ _ _ (c .before .before .before .before .before .before .parse-text .ensures) _ _ (c .before .before .parsing2 .given .1) .1 .1
 
 events-long : tie.Need-slice-aggregate-events
-events-long c = laws.events-long _ _ _ _ _ (c .before .before .before .before .before .before .before .before .parse-text .ensures) _ _ (c .before .before .before .before .parsing2 .given .1)
+events-long c = laws.events-long _ _ _ _ _ (c .before .before .before .before .before .before .before .parse-text .ensures) _ _ (c .before .before .before .parsing2 .given .1)
 
-tables : tie.Need-tables-1024-requires
-tables c κs = (laws.parsed _ _ _ _ _ (c .before .before .before .before .before .before .before .before .before .before .before .before .before .parse-text .ensures) _ _ (c .before .before .before .before .before .before .before .before .before .parsing2 .given .1) .0, laws.few _ _ _ _ _ (c .before .before .before .before .before .before .before .before .before .before .before .before .before .parse-text .ensures) _ _ 1024 (c .before .before .before .before .before .before .before .before .before .parsing2 .given .1) (c .before .before .before .before .before .before .before .if1 .left))
+logged : tie.Need-read-log-requires
+logged c κs = laws.parsed _ _ _ _ _ (c .before .before .before .before .before .before .before .before .before .before .before .before .parse-text .ensures) _ _ (c .before .before .before .before .before .before .before .before .parsing2 .given .1) .0
 
-refused : tie.Need-returns-2
+refused : tie.Need-returns
 unfolding Reads
 refused c = (laws.refused _ _ _ _ _ (c .before .before .before .before .before .parse-text .ensures) _ (c .before .parsing .given .1) _, refl)
 
@@ -31,18 +34,11 @@ read-4096-spec =
     (λ c κs. search needs)
     (λ c. search needs)
     (λ c. search needs)
-    (λ c κs. search needs)
-    (λ c. search needs)
-    (λ c. search needs)
-    (λ c. search needs)
-    (λ c. search needs)
-    (λ c. search needs)
-    (λ c. search needs)
-    (λ c. search needs)
+    words
     words-long
     events
     events-long
-    tables
+    logged
     refused
     (λ c. search needs)
     (λ c. search needs)

@@ -1,39 +1,54 @@
 -- `handover::read_log` meets its contract. Assumes nothing.
 use borrow.Author.Needs.{needs}
 use native.Mathlib.Omega.{arith}
-use Rattle.handover.proofs.Scratch as laws
+use Rattle.handover.proofs.Handing as laws
 use Rattle.handover.proofs.read_log.Statement.{statement}
 use Rattle.handover.proofs.read_log.Tie as tie
 
-arranging : tie.Need-arrange-requires
-arranging c κs = let p = c .before .before .before .before .before .before .before .before .before .before .before .before .before .before .before .before .before .before .before .before .before .before in laws.arrangeable _ _ _ (p .args .tokens .now) (p .pre .0) _ _ _ _ _ _ _ (p .pre .1)
+returns : tie.Need-returns
+returns c =
+    let a = c .before .before .before .before .before .before .before .before .before .before .before .args in
+    laws.row8 (a .text .now) (a .s .now) (a .log .now) (a .tokens .now) (a .actions .now) (a .operands .now) (a .levels .now) (a .labels .now) (c .before .before .before .before .before .before .before .before .before .before .before .pre)
+    (c .before .before .count-log .result) (c .before .before .count-log .ensures) (c .before .short-table .result) (c .before .short-table .ensures) (c .if1 .taken)
 
-ready : tie.Need-hand-over-requires
-ready c κs =
-    let p = c .before .before .before .before .before .before .before .before .before .before .before .before .before .before .before .before .before .before .before .before .before .before .before .before .before .before .before .before .before .before .before .before .before .before .before .before .before .before .before .before .before .before .before .before .before .before .before .before .before in
-    let a = c .before .before .before .before .before .before .before .before .before .before .before .before .before .before .before .before .before .before .before .before .before .before .before .before .before .before .arrange in
-    laws.ready _ _ _ (p .args .tokens .now) (p .pre .0) _ _ _ _ _ _ _ _ (a .ensures)
-    (omega (arith, p .pre .1 .for-sorted, a .kept .1 .1 .1 .1 .1 .1 .1 .1 .0)) (omega (arith, p .pre .1 .for-starts, a .kept .1 .1 .1 .1 .1 .1 .1 .1 .1 .0))
+put-labels-requires : tie.Need-put-labels-requires
+put-labels-requires c κs =
+    let a = c .before .before .before .before .before .before .before .before .before .before .before .before .args in
+    laws.asked (a .text .now) (a .s .now) (a .log .now) (a .tokens .now) (a .actions .now) (a .operands .now) (a .levels .now) (a .labels .now) (c .before .before .before .before .before .before .before .before .before .before .before .before .pre)
+    (c .before .before .before .count-log .result) (c .before .before .before .count-log .ensures)
 
-acted-long : tie.Need-same-length
-acted-long c = c .before .before .before .before .before .before .before .before .before .before .before .before .before .before .before .before .before .before .before .before .before .before .before .before .before .before .before .before .before .before .before .before .before .before .before .before .before .before .before .before .before .arrange .kept .1 .1 .1 .0
+returns-2 : tie.Need-returns-2
+returns-2 c =
+    let a = c .before .before .before .before .before .before .before .before .before .before .before .before .before .before .before .before .before .args in
+    let p = c .before .before .before .before .before .before .before .before .before .before .before .before .before .before .before .before .before .pre in
+    laws.no-room (a .text .now) (a .s .now) (a .log .now) (a .tokens .now) (a .actions .now) (a .operands .now) (a .levels .now) (a .labels .now) p
+    (c .before .before .before .before .before .before .before .before .count-log .result) (c .before .before .before .before .before .before .before .before .count-log .ensures) (c .before .before .before .before .before .before .before .short-table .result) (c .before .before .before .before .before .before .before .short-table .ensures) (c .before .before .before .before .before .before .if1 .left) _ _ (c .before .before .before .before .put-labels .ensures (p .tree) (p .of) (p .log-of)) (c .enum-told .given .1)
+
+returns-3 : tie.Need-returns-3
+returns-3 c =
+    let a = c .before .before .before .before .before .before .before .before .before .before .before .before .before .before .before .before .before .before .before .before .before .before .before .before .before .before .before .before .before .before .before .before .args in
+    let p = c .before .before .before .before .before .before .before .before .before .before .before .before .before .before .before .before .before .before .before .before .before .before .before .before .before .before .before .before .before .before .before .before .pre in
+    laws.accepted-put (a .text .now) (a .s .now) (a .log .now) (a .tokens .now) (a .actions .now) (a .operands .now) (a .levels .now) (a .labels .now) p
+    (c .before .before .before .before .before .before .before .before .before .before .before .before .before .before .before .before .before .before .before .before .before .before .before .count-log .result) (c .before .before .before .before .before .before .before .before .before .before .before .before .before .before .before .before .before .before .before .before .before .before .before .count-log .ensures) (c .before .before .before .before .before .before .before .before .before .before .before .before .before .before .before .before .before .before .before .before .before .before .short-table .result) (c .before .before .before .before .before .before .before .before .before .before .before .before .before .before .before .before .before .before .before .before .before .before .short-table .ensures) (c .before .before .before .before .before .before .before .before .before .before .before .before .before .before .before .before .before .before .before .before .before .if1 .left) _ _ _ _ _ _ _ (c .before .before .before .before .before .before .before .before .before .before .before .before .before .before .before .before .before .before .before .put-labels .ensures (p .tree) (p .of) (p .log-of)) (c .before .before .before .before .before .before .before .before .before .before .before .before .before .before .before .put .given .1)
+    (c .before .before .before .before .before .before .before .before .before .before .write-tables .ensures) (c .before .before .copy-front .ensures)
 
 pub read-log-spec : {M : Type 1} → statement M
 read-log-spec =
     tie.close
     (tie.spec
-    arranging
-    ready
-    acted-long
+    (λ c κs. search needs)
+    (λ c κs. search needs)
+    returns
+    put-labels-requires
+    (λ c. search needs)
+    (λ c. search needs)
+    (λ c. search needs)
+    returns-2
+    (λ c κs. omega (arith, c .before .before .before .before .before .before .before .before .before .before .before .before .before .before .before .before .before .before .before .before .before .pre .events, c .before .before .before .before .before .before .before .before .before .before .before .before .before .before .before .before .before .before .before .before .before .pre .of .few))
+    (λ c κs. (omega arith, c .before .before .before .before .before .before .before .before .before .before .before .before .before .before .before .before .before .before .before .before .before .before .before .before .before .before .before .before .before .pre .in-room))
     (λ c. search needs)
     (λ c. search needs)
     (λ c. search needs)
     (λ c. search needs)
     (λ c. search needs)
-    (λ c. search needs)
-    (λ c. search needs)
-    (λ c. search needs)
-    (λ c. search needs)
-    (λ c. search needs)
-    (λ c. search needs)
-    (λ c. search needs))
+    returns-3)

@@ -1,0 +1,12 @@
+-- `labelling::load` meets its contract. Assumes nothing.
+use borrow.Author.Needs.{needs}
+use mathlib.Core.Path.{sym}
+use lib.ListN.{List·getD-eq-default}
+use Rattle.labelling.proofs.load.Statement.{statement}
+use Rattle.labelling.proofs.load.Tie as tie
+
+past : tie.Need-returns-2
+past c = sym (List·getD-eq-default (c .before .args .table .now) 0 (c .if1 .left))
+
+pub load-spec : {M : Type 1} → statement M
+load-spec = tie.close (tie.spec (λ c. search needs) (λ c. search needs) (λ c. search needs) past)

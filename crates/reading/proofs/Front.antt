@@ -1,0 +1,164 @@
+-- The lent tables once a tree's log is written: those of its reading. Assumes nothing.
+use mathlib.Core.Path.{_≡_, refl, sym, ap, subst, _∙_}
+use mathlib.Core.List.{List, [], _∷_, _++_, map}
+use Prim.Native.Nat.{ℕ, zero, suc, _+_, _*_, _≤_, _<_}
+use native.Mathlib.Omega.{arith}
+use lib.IntN.{pos}
+use lib.ListN.{length, getD, set, length-append, length-map, length-set}
+use lib.Seq.{sets, set-set, getD-set-same}
+use Rattle.actions.specs.Numbers.{numberOf}
+use Rattle.actions.proofs.Numbers.{number-below}
+use Rattle.entries.specs.declared.Net.the-variants as N
+use Rattle.entries.specs.Entries.{actionWord, levelWord, netNumber}
+use Rattle.entries.specs.Fields.{actionFields, levelFields}
+use Rattle.grammar.specs.Grammar.{Items, done, label, action, Blocks, no-blocks, block}
+use Rattle.grammar.specs.Reading.{Acted, Opened, ownActions, allActions, actionsInside, opened, openedOf, openedIn, actedOf, actedIn, operandsFrom, readingOf}
+use Rattle.grammar.specs.Reading as R
+use Rattle.grammar.specs.Nets.{Net, netFrom, nets}
+use Rattle.grammar.proofs.Unique.{events}
+use Rattle.grammar.proofs.Sizes.{size, sizes}
+use Rattle.parser.specs.Parsed.{logOf}
+use Rattle.writing.specs.declared.Writer.{Writer}
+use Rattle.writing.specs.Writing.{Written, written, steps, start, Writes}
+use Rattle.reading.specs.Tables.{under, actionEntries, levelEntries, front, actionWords, operandEntryWord, operandWords, levelWords}
+use Rattle.reading.specs.Told.{Known, Filled}
+use Rattle.reading.proofs.Trees.{acted-count, lastOf}
+use Rattle.reading.proofs.Entries.{given, under-given}
+use Rattle.reading.proofs.Nets.{runFrom}
+use Rattle.reading.proofs.Sets.{at-front}
+use Rattle.reading.proofs.Gathered.{words}
+use Rattle.reading.proofs.Writes.{ops, actWords, opWords, op-length, act-length, ops-append, levelFinal, standing, of-items, after}
+
+-- ---- a tree's entries are no more than its size
+
+mutual
+  pub few-of : (x : Items) (ℓ m b : ℕ) → allActions x + ops (actedOf ℓ m x) + length (openedOf b x) ≤ size x
+  few-of done ℓ m b = omega arith
+  few-of (label t x) ℓ m b = omega (arith, few-of x ℓ m b)
+  few-of (action n os bs x) ℓ m b =
+      let m′ = m + length (openedIn 0 0 bs) in
+      let b′ = suc b + actionsInside bs in
+      omega (
+        arith,
+        ops-append (actedIn m bs) (actedOf ℓ m′ x),
+        length-append (openedIn b (suc b) bs) (openedOf b′ x),
+        few-in bs m b (suc b),
+        few-of x ℓ m′ b′,
+      )
+
+  few-in : (bs : Blocks) (m o b : ℕ) → actionsInside bs + ops (actedIn m bs) + length (openedIn o b bs) ≤ sizes bs
+  few-in no-blocks m o b = omega arith
+  few-in (block p x bs) m o b =
+      let m′ = suc m + length (openedOf 0 x) in
+      let b′ = b + allActions x in
+      omega (
+        arith,
+        ops-append (actedOf m (suc m) x) (actedIn m′ bs),
+        length-append (openedOf b x) (openedIn o b′ bs),
+        few-of x m (suc m) b,
+        few-in bs m′ o b′,
+      )
+
+-- ---- the words are those of the reading's entries
+
+abbrev bare : Acted → R.Action
+bare l = record { name = l .name; level = l .level }
+
+entries-are : (os : List R.Operand) (ls : List Acted) (a first : ℕ) → ((k : ℕ) → under (a + k) os ≡ given ls k)
+    → map actionWord (actionEntries a first (map bare ls) os) ≡ actWords first ls
+entries-are os [] a first h = refl
+entries-are os (l ∷ ls) a first h =
+    let z : a + 0 ≡ a = omega arith in
+    let e : under a os ≡ length (l .operands) = sym (ap (λ k. under k os) z) ∙ h 0 in
+    let w : actionWord (record { name = l .name; level = l .level; first = first; count = under a os }) ≡ actionFields (numberOf (l .name)) (l .level) first (length (l .operands)) =
+    omega (arith, e, number-below (l .name))
+    in
+    let s : (j : ℕ) → suc a + j ≡ a + suc j = λ j. omega arith in
+    λ j. w j ∷ (entries-are os ls (suc a) (first + under a os) (λ k. ap (λ q. under q os) (s k) ∙ h (suc k)) ∙ ap (λ q. actWords (first + q) ls) e) j
+
+pub actions-are : (x : Items) → actionWords (readingOf x) ≡ actWords 0 (actedOf 0 1 x)
+unfolding readingOf
+actions-are x =
+    let acts = actedOf 0 1 x in
+    entries-are (operandsFrom 0 acts) acts 0 0 (λ k. under-given acts 0 k)
+
+pub operands-are : (x : Items) → operandWords (readingOf x) ≡ opWords 0 (actedOf 0 1 x)
+unfolding readingOf
+operands-are x = refl
+
+abbrev counted : Opened → R.Level
+counted l = record { owner = l .owner; actions = ownActions (l .items) }
+
+abbrev netted : Opened → Net
+netted l = netFrom (l .first) (pos 0) (l .items)
+
+levels-list : (ls : List Opened) → map levelWord (levelEntries (map counted ls) (map netted ls)) ≡ map levelFinal ls
+levels-list [] = refl
+levels-list (l ∷ ls) = ap (λ k. levelFinal l ∷ k) (levels-list ls)
+
+pub levels-are : (x : Items) → levelWords (readingOf x) (nets x) ≡ map levelFinal (opened x)
+unfolding readingOf nets
+levels-are x = levels-list (opened x)
+
+-- ---- how many they are
+
+pub actions-many : (x : Items) → length (readingOf x .actions) ≡ allActions x
+unfolding readingOf
+actions-many x = length-map (actedOf 0 1 x) bare ∙ acted-count x 0 1
+
+pub operands-many : (x : Items) → length (readingOf x .operands) ≡ ops (actedOf 0 1 x)
+unfolding readingOf
+operands-many x = sym (length-map (operandsFrom 0 (actedOf 0 1 x)) operandEntryWord) ∙ op-length (actedOf 0 1 x) 0
+
+pub levels-many : (x : Items) → length (readingOf x .levels) ≡ suc (length (openedOf 0 x))
+unfolding readingOf
+levels-many x = length-map (opened x) counted
+
+-- ---- the tables
+
+pub filled : (text s log xs os ls xs′ os′ ls′ : List ℕ) (x : Items) → Known text s x → log ≡ logOf x → Writes text s log xs os ls xs′ os′ ls′
+    → length (readingOf x .actions) ≤ length xs → length (readingOf x .operands) ≤ length os → length (readingOf x .levels) ≤ length ls
+    → Filled x xs os ls xs′ os′ ls′
+unfolding written
+filled text s log xs os ls xs′ os′ ls′ x known e w ra ro rl =
+    let acts = actedOf 0 1 x in
+    let v₀ = levelFields 0 0 196608 in
+    let v₁ = levelFields 0 (0 + ownActions x) (netNumber (runFrom 0 (N.Height (pos 0)) x)) in
+    let fs = few-of x 0 1 0 in
+    let am = actions-many x in
+    let om = operands-many x in
+    let lm = levels-many x in
+    let all : written xs′ os′ ls′ (w .at) ≡ after text s (known .few) xs os (set ls 0 v₀) 0 0 0 0 1 0 0 (N.Height (pos 0)) x =
+    w .all ∙ ap (λ l. steps text s l (start xs os ls)) e
+    ∙ of-items text s (known .few) x [] xs os (set ls 0 v₀) 0 0 0 0 1 0 0 (N.Height (pos 0))
+    (record {
+      inside = omega arith;
+      here = getD-set-same ls 0 v₀ 0 (omega (arith, lm));
+      block = omega arith;
+      count = omega arith;
+      near = omega arith;
+    })
+    (record {
+      actions = omega (arith, am);
+      operands = omega (arith, om);
+      levels = omega (arith, lm, length-set ls 0 v₀);
+      few-actions = omega (arith, fs, known .small, known .few);
+      few-operands = omega (arith, fs, known .small, known .few);
+      few-levels = omega (arith, fs, known .small, known .few);
+    }) (known .known) refl
+    in
+    let z : 0 + ownActions x ≡ ownActions x = omega arith in
+    record {
+      actions =
+          ap (λ (T : Written). T .actions) all ∙ at-front (actWords 0 acts) xs (omega (arith, act-length acts 0, acted-count x 0 1, am))
+          ∙ ap (λ l. front l xs) (sym (actions-are x));
+      operands =
+          ap (λ (T : Written). T .operands) all ∙ at-front (opWords 0 acts) os (omega (arith, op-length acts 0, om))
+          ∙ ap (λ l. front l os) (sym (operands-are x));
+      levels =
+          ap (λ (T : Written). T .levels) all
+          ∙ ap (λ l. sets l 1 (map levelFinal (openedOf 0 x))) (set-set ls 0 v₀ v₁)
+          ∙ (λ j. sets ls 0 (levelFields 0 (z j) (netNumber (runFrom 0 (N.Height (pos 0)) x)) ∷ map levelFinal (openedOf 0 x)))
+          ∙ at-front (map levelFinal (opened x)) ls (omega (arith, length-map (openedOf 0 x) levelFinal, lm))
+          ∙ ap (λ l. front l ls) (sym (levels-are x));
+    }

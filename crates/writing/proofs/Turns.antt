@@ -1,0 +1,172 @@
+-- What each call that writes an event leaves. Assumes nothing.
+use mathlib.Core.Path.{_≡_, refl, sym, ap, subst, _∙_}
+use mathlib.Core.Bool.{Bool}
+use mathlib.Core.List.{List, [], _∷_, map}
+use Prim.Native.Nat.{ℕ, zero, suc, _+_, _-_, _*_, _/_, _%_, _≤_, _<_}
+use native.Mathlib.Numerals.{add-one}
+use native.Mathlib.Omega.{arith}
+use lib.ListN.{length, drop, getD, set, drop-of-length-le}
+use lib.Seq.{sets, drop-cons}
+use Rattle.names.specs.declared.ActionName.{ActionName}
+use Rattle.actions.specs.Numbers.{actionAt}
+use Rattle.entries.specs.declared.Held.{Held}
+use Rattle.entries.specs.Fields.{actionFields, actionLevel, operandFields, levelFields, heldIn}
+use Rattle.pcode.specs.Deltas.{deltaOf}
+use Rattle.nets.specs.Nets.{firstIsEmpty, nextNet}
+use Rattle.writing.specs.declared.Writer.{Writer}
+use Rattle.writing.specs.Writing.{gather, Written, written, movedLevel, givenIn, acted, opening, openedIn, opened, ownerIn, closing, closed, by, step, steps, start, Small}
+
+pub moved-is : (text s ops : List ℕ) (first end n a ℓ : ℕ) (ls : List ℕ) (h : Held) (name : ActionName) (empty : Bool) (net : ℕ) (ls′ : List ℕ)
+    → h ≡ heldIn (getD ls ℓ 0) → name ≡ actionAt n → empty ≡ firstIsEmpty text s ops first end
+    → net ≡ nextNet (h .net) a (deltaOf name (end - first) empty)
+    → ls′ ≡ set ls ℓ (levelFields (h .block) (h .actions + 1) net)
+    → ls′ ≡ movedLevel text s ops first end n a ℓ ls
+unfolding movedLevel
+moved-is text s ops first end n a ℓ ls h name empty net ls′ eh ea ee en el =
+    el
+    ∙ ap (λ q. set ls ℓ (levelFields (h .block) (h .actions + 1) q)) en
+    ∙ (λ j. set ls ℓ (levelFields (eh j .block) (eh j .actions + 1) (nextNet (eh j .net) a (deltaOf (ea j) (end - first) (ee j)))))
+
+pub closing-is : (xs ls : List ℕ) (w r : Writer) (h : Held) (owner level : ℕ) → h ≡ heldIn (getD ls (w .level) 0) → owner ≡ (h .block - 1) / 4
+    → level ≡ actionLevel (getD xs owner 0)
+    → r ≡ record { level = level; action = owner; actions = w .actions; operands = w .operands; levels = w .levels }
+    → r ≡ closing xs ls w
+closing-is xs ls w r h owner level eh eo el er =
+    let o : owner ≡ ownerIn ls (w .level) = eo ∙ ap (λ (q : Held). (q .block - 1) / 4) eh in
+    er ∙ (λ j. record { level = (el ∙ ap (λ q. actionLevel (getD xs q 0)) o) j; action = o j; actions = w .actions; operands = w .operands; levels = w .levels })
+
+pub acted-is : (text s : List ℕ) (n : ℕ) (rest xs os ls xs′ os′ ls′ : List ℕ) (w : Writer) (end : ℕ)
+    → os′ ≡ sets os (w .operands) (map (operandFields (w .actions)) (gather 0 rest))
+    → end ≡ w .operands + length (gather 0 rest)
+    → xs′ ≡ set xs (w .actions) (actionFields n (w .level) (w .operands) (end - w .operands))
+    → ls′ ≡ movedLevel text s os′ (w .operands) end n (w .actions) (w .level) ls
+    → written xs′ os′ ls′ (record { level = w .level; action = w .actions; actions = w .actions + 1; operands = end; levels = w .levels }) ≡ acted text s n rest (written xs os ls w)
+unfolding written acted givenIn
+acted-is text s n rest xs os ls xs′ os′ ls′ w end eo ee ex el =
+    let d : end - w .operands ≡ length (gather 0 rest) = omega arith in
+    λ j. record {
+      actions = (ex ∙ ap (λ k. set xs (w .actions) (actionFields n (w .level) (w .operands) k)) d) j;
+      operands = eo j;
+      levels = (el ∙ (λ k. movedLevel text s (eo k) (w .operands) (ee k) n (w .actions) (w .level) ls)) j;
+      at = record { level = w .level; action = w .actions; actions = w .actions + 1; operands = ee j; levels = w .levels };
+    }
+
+pub opened-is : (p : ℕ) (xs os ls ls′ : List ℕ) (w r : Writer) → r ≡ opening w → ls′ ≡ openedIn ls w p → written xs os ls′ r ≡ opened p (written xs os ls w)
+unfolding written opened
+opened-is p xs os ls ls′ w r er el = λ j. record { actions = xs; operands = os; levels = el j; at = er j }
+
+pub closed-is : (xs os ls : List ℕ) (w r : Writer) → r ≡ closing xs ls w → written xs os ls r ≡ closed (written xs os ls w)
+unfolding written closed
+closed-is xs os ls w r er = λ j. record { actions = xs; operands = os; levels = ls; at = er j }
+
+-- ---- by the event's kind
+
+pub arm : (text s : List ℕ) (w k : ℕ) (rest : List ℕ) (T U : Written) → w / 1048576 ≡ k → U ≡ by text s k (w % 1048576) rest T → U ≡ step text s w rest T
+unfolding step
+arm text s w k rest T U e h = h ∙ ap (λ q. by text s q (w % 1048576) rest T) (sym e)
+
+others : (text s : List ℕ) (k n : ℕ) (rest : List ℕ) (T : Written) → 5 ≤ k → T ≡ by text s k n rest T
+others text s zero n rest T h = absurd (omega arith)
+others text s (suc zero) n rest T h = absurd (omega arith)
+others text s (suc (suc zero)) n rest T h = absurd (omega arith)
+others text s (suc (suc (suc zero))) n rest T h = absurd (omega arith)
+others text s (suc (suc (suc (suc zero)))) n rest T h = absurd (omega arith)
+others text s (suc (suc (suc (suc (suc k))))) n rest T h = refl
+
+pub rest-arm : (text s : List ℕ) (w : ℕ) (rest : List ℕ) (T : Written) → 5 ≤ w / 1048576 → T ≡ step text s w rest T
+rest-arm text s w rest T h = arm text s w (w / 1048576) rest T T refl (others text s (w / 1048576) (w % 1048576) rest T h)
+
+-- ---- how far the writer gets
+
+module _ (i : ℕ) (w : Writer) (m : Small i w) (h : i < 65536) where
+  pub wider : Small 65535 w
+  wider =
+      record {
+        actions = omega (arith, m .actions);
+        operands = omega (arith, m .operands);
+        levels = omega (arith, m .levels);
+        level = m .level;
+        action = m .action;
+      }
+
+  pub widest : Small 65536 w
+  widest =
+      record {
+        actions = omega (arith, m .actions);
+        operands = omega (arith, m .operands);
+        levels = omega (arith, m .levels);
+        level = m .level;
+        action = m .action;
+      }
+
+  pub acts-small : (r : Writer) → (r .actions ≡ w .actions + 1) × ((r .operands ≤ w .operands + 65536) × ((r .levels ≡ w .levels) × ((r .level ≡ w .level) × (r .action ≡ w .actions)))) → Small (i + 1) r
+  acts-small r e =
+      record {
+        actions = omega (arith, e .0, m .actions);
+        operands = omega (arith, e .1 .0, m .operands);
+        levels = omega (arith, e .1 .1 .0, m .levels);
+        level = omega (arith, e .1 .1 .1 .0, m .level);
+        action = omega (arith, e .1 .1 .1 .1, m .actions);
+      }
+
+  pub stays-small : Small (i + 1) w
+  stays-small =
+      record {
+        actions = omega (arith, m .actions);
+        operands = omega (arith, m .operands);
+        levels = omega (arith, m .levels);
+        level = m .level;
+        action = m .action;
+      }
+
+  pub opens-small : (r : Writer) → r ≡ opening w → Small (i + 1) r
+  opens-small r e =
+      subst (Small (i + 1)) (sym e) (record {
+        actions = omega (arith, m .actions);
+        operands = omega (arith, m .operands);
+        levels = omega (arith, m .levels);
+        level = omega (arith, m .levels);
+        action = m .action;
+      })
+
+  pub closes-small : (xs ls : List ℕ) (r : Writer) → r ≡ closing xs ls w → r .level < 131072 → r .action < 262144 → Small (i + 1) r
+  closes-small xs ls r e f g =
+      record {
+        actions = omega (arith, ap (λ (q : Writer). q .actions) e, m .actions);
+        operands = omega (arith, ap (λ (q : Writer). q .operands) e, m .operands);
+        levels = omega (arith, ap (λ (q : Writer). q .levels) e, m .levels);
+        level = f;
+        action = g;
+      }
+
+-- ---- the loop: what is left to write of what is written leads to where all leads
+
+pub record Done (text s log xs₀ os₀ ls₀ : List ℕ) (w₀ : Writer) (xs os ls : List ℕ) (w : Writer) (i : ℕ) : Type 0 where
+  pub inside : i ≤ length log
+  pub small : Small i w
+  pub told : steps text s (drop i log) (written xs os ls w) ≡ steps text s log (written xs₀ os₀ ls₀ w₀)
+  pub actions-long : length xs ≡ length xs₀
+  pub operands-long : length os ≡ length os₀
+  pub levels-long : length ls ≡ length ls₀
+
+pub again : (text s log xs₀ os₀ ls₀ : List ℕ) (w₀ : Writer) (xs os ls : List ℕ) (w : Writer) (i : ℕ) → Done text s log xs₀ os₀ ls₀ w₀ xs os ls w i → i < length log
+    → (xs′ os′ ls′ : List ℕ) (r : Writer)
+    → written xs′ os′ ls′ r ≡ step text s (getD log i 0) (drop (i + 1) log) (written xs os ls w) → Small (i + 1) r
+    → length xs′ ≡ length xs → length os′ ≡ length os → length ls′ ≡ length ls
+    → Done text s log xs₀ os₀ ls₀ w₀ xs′ os′ ls′ r (i + 1)
+again text s log xs₀ os₀ ls₀ w₀ xs os ls w i d h xs′ os′ ls′ r e m a b f =
+    record {
+      inside = omega arith;
+      small = m;
+      told =
+          ap (steps text s (drop (i + 1) log)) e
+          ∙ sym (ap (λ l. steps text s l (written xs os ls w)) (drop-cons log i 0 h ∙ ap (λ k. getD log i 0 ∷ drop k log) (sym (add-one i))))
+          ∙ d .told;
+      actions-long = a ∙ d .actions-long;
+      operands-long = b ∙ d .operands-long;
+      levels-long = f ∙ d .levels-long;
+    }
+
+pub ended : (text s log xs₀ os₀ ls₀ : List ℕ) (w₀ : Writer) (xs os ls : List ℕ) (w : Writer) (i : ℕ) → Done text s log xs₀ os₀ ls₀ w₀ xs os ls w i → length log ≤ i
+    → written xs os ls w ≡ steps text s log (written xs₀ os₀ ls₀ w₀)
+ended text s log xs₀ os₀ ls₀ w₀ xs os ls w i d h = sym (ap (λ l. steps text s l (written xs os ls w)) (drop-of-length-le log h)) ∙ d .told

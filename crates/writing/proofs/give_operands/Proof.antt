@@ -1,0 +1,65 @@
+-- `writing::give_operands` meets its contract. Assumes nothing.
+use borrow.Author.Needs.{needs}
+use Prim.Native.Nat.{_-_}
+use native.Mathlib.Omega.{arith}
+use lib.ListN.{length}
+use Rattle.writing.proofs.Gather.{Giving, begins, passes, gives, tries, stops, ends}
+use Rattle.writing.proofs.give_operands.Statement.{statement}
+use Rattle.writing.proofs.give_operands.Tie as tie
+
+abbrev Inv-loop : tie.InvT-loop
+Inv-loop log from action at operands₀ depth₀ end₀ i₀ operands depth end i = Giving log from action at operands₀ operands depth end i
+
+abbrev μ-loop : tie.MeasureT-loop
+μ-loop log from action at operands₀ depth₀ end₀ i₀ operands depth end i = length log - i
+
+loop-holds : tie.Need-loop-holds Inv-loop μ-loop
+loop-holds c = begins _ _ _ _ _ (c .before .before .pre .1 .0)
+
+deeper-requires : tie.Need-deeper-requires Inv-loop μ-loop
+deeper-requires c κs = (c .if1 .taken, omega (arith, c .before .before .before .loop .inv .shallow, c .before .before .before .loop .inv .inside, c .before .before .before .before .before .before .pre .0))
+
+loop-again : tie.Need-loop-again Inv-loop μ-loop
+loop-again c = passes _ _ _ _ _ _ _ _ _ (c .before .before .before .before .loop .inv) (c .before .before .before .loop-test .taken) (c .before .if1 .taken) _ (c .deeper .ensures .0) (c .deeper .ensures .1)
+
+put-operand-requires : tie.Need-put-operand-requires Inv-loop μ-loop
+put-operand-requires c κs = (c .before .before .before .before .before .before .before .before .pre .1 .1 .0, omega arith)
+
+add-end : tie.Need-add-end Inv-loop μ-loop
+add-end c = omega (arith, c .before .before .before .before .before .before .before .before .loop .inv .few, c .before .before .before .before .before .before .before .before .loop .inv .inside, c .before .before .before .before .before .before .before .before .before .before .before .pre .0, c .before .before .before .before .before .before .before .before .before .before .before .pre .1 .1 .1)
+
+loop-again-2 : tie.Need-loop-again-2 Inv-loop μ-loop
+loop-again-2 c = gives _ _ _ _ _ _ _ _ _ (c .before .before .before .before .before .before .before .before .loop .inv) (c .before .before .before .before .before .before .before .loop-test .taken) (c .before .before .before .before .before .if1 .left) (c .before .before .before .before .if2 .taken) _ (c .before .before .put-operand .ensures)
+
+returns : tie.Need-returns Inv-loop μ-loop
+returns c = stops _ _ _ _ _ _ _ _ _ (c .before .before .before .before .before .loop .inv) (c .before .before .before .before .loop-test .taken) (c .before .before .if1 .left) (c .before .if2 .left) (c .if3 .taken)
+
+loop-again-3 : tie.Need-loop-again-3 Inv-loop μ-loop
+loop-again-3 c = tries _ _ _ _ _ _ _ _ _ (c .before .before .before .before .before .loop .inv) (c .before .before .before .before .loop-test .taken) (c .before .before .if1 .left) (c .before .if2 .left) (c .if3 .left)
+
+returns-2 : tie.Need-returns-2 Inv-loop μ-loop
+returns-2 c = ends _ _ _ _ _ _ _ _ _ (c .before .loop .inv) (c .loop-test .left)
+
+pub give-operands-spec : {M : Type 1} → statement M
+give-operands-spec =
+    tie.close
+    (tie.spec
+    Inv-loop
+    μ-loop
+    loop-holds
+    (λ c. search needs)
+    (λ c. search needs)
+    (λ c. search needs)
+    deeper-requires
+    (λ c. search needs)
+    loop-again
+    put-operand-requires
+    add-end
+    (λ c. search needs)
+    loop-again-2
+    (λ c. c .before .before .before .before .before .loop .inv .long)
+    returns
+    (λ c. search needs)
+    loop-again-3
+    (λ c. c .before .loop .inv .long)
+    returns-2)
