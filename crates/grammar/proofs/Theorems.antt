@@ -3,7 +3,7 @@
 use mathlib.Core.Path.{_≡_}
 use mathlib.Core.List.{List, [], _∷_, map, List·Memᴰ}
 use mathlib.Core.Logic.{_⊎_}
-use Prim.Native.Nat.{ℕ, _+_, _≤_, _<_}
+use Prim.Native.Nat.{ℕ, _+_, _*_, _≤_, _<_}
 use native.Mathlib.Omega.{arith}
 use lib.IntN.{ℤ, pos, negℤ}
 use lib.ListN.{length, getD}
@@ -67,13 +67,20 @@ labels-in-range r l m = let i = LabelRange.labels-in-range r l m in (i .inside, 
 pub zero-in-empty : {ts : List Lexeme} {R : Reading} → Reads ts R → (l : Label) → List·Memᴰ l (R .labels) → actionsAt R (l .level) ≡ 0 → l .position ≡ 0
 zero-in-empty r l m h = omega (arith, labels-in-range r l m .1)
 
--- a reading has at most as many entries of each kind as there are tokens, and one level more
+-- a reading has at most one entry of each kind for every two tokens, and one level more; the last action may end with the text
+pub halves : {ts : List Lexeme} {R : Reading} → Reads ts R →
+    (2 * length (R .actions) ≤ length ts + 1) × (2 * length (R .operands) ≤ length ts) × (2 * length (R .levels) ≤ length ts + 2) × (2 * length (R .labels) ≤ length ts)
+halves r = let c = Sizes.counts r in (c .actions, c .operands, c .levels, c .labels)
+
+-- so at most as many as there are tokens, and one level more
 pub counts : {ts : List Lexeme} {R : Reading} → Reads ts R →
     (length (R .actions) ≤ length ts) × (length (R .operands) ≤ length ts) × (length (R .levels) ≤ length ts + 1) × (length (R .labels) ≤ length ts)
-counts r = let c = Sizes.counts r in (c .actions, c .operands, c .levels, c .labels)
+counts r =
+    let c = Sizes.counts r in
+    (omega (arith, c .actions), omega (arith, c .operands), omega (arith, c .levels), omega (arith, c .labels))
 
--- so tables with a place for each token, and one for the top level, are never too short
-pub ample : {ts : List Lexeme} {R : Reading} (n : ℕ) → Reads ts R → length ts + 1 ≤ n → (k : ℕ) → ¬ Short (n ∷ n ∷ n ∷ n ∷ []) R k
+-- and tables with a place for every other token, and one for the top level, are never too short
+pub ample : {ts : List Lexeme} {R : Reading} (n : ℕ) → Reads ts R → length ts + 2 ≤ 2 * n → (k : ℕ) → ¬ Short (n ∷ n ∷ n ∷ n ∷ []) R k
 ample n r h k = Sizes.ample n r h k
 
 -- a net lies from -196,608 to 65,536
