@@ -11,13 +11,15 @@ use Rattle.shapes.specs.Shapes.{shapeOf}
 use Rattle.tokens.specs.declared.TokenKind.{TokenKind}
 use Rattle.tokens.specs.declared.TokenKind.the-variants as K
 use Rattle.tokens.specs.Kinds.{isKind}
-use Rattle.grammar.specs.Operands.{Lexeme, lexeme, Class, bool, onlyTrue, onlyFalse, u16, target, count, isOperand}
-use Rattle.grammar.specs.Grammar.{Part, try, Items, Blocks, block, Body, ofTry, no-newline, newline, Ended, text-ends, line-ends, Level, level as level-is, Written, ends as written-ends, names as names-label, acts, Block, braces, Bodies, no-body, one-body, try-body, Catch, no-catch, catches as catches-block, Finally, no-finally, finishes, Text}
-use Rattle.grammar.proofs.Tests.{kind-is}
-use Rattle.grammar.proofs.Plans.{Params, Plan, plain, listing, frame, function, within, trying, planOf, behindCount, Planned, fixed, any-number, biased, unbiased, parameters, block-alone, no-target, has-target as target-planned, taken, Further, no-further, next, Parted, empty, first, unparted}
-use Rattle.grammar.proofs.Events.{Event}
-use Rattle.grammar.proofs.Machine.{Nesting, top, inner, Handlers, no-handlers, after-try, after-catch, item, ended, list₀, list₁, Punctuation, kind-of, Symbol, mark, operand, flag, counted, opens, targets, level, Output, Move, stop, go, further, listed, start, move, Accepts, text, may-end, puts, finish, proceed, run}
-use Rattle.grammar.proofs.Moves.{ends, ends₀, ends₁, Step, marks, gives, flags-true, flags-false, counts, block-opens, try-opens, has-target, skips, names, closes, catches, finishes-try, finishes-catch, begins, ends-at, lists-first, lists-next, Legal, halts, steps, legal}
+use Rattle.lexemes.specs.Lexemes.{Lexeme, lexeme}
+use Rattle.lexemes.specs.Operands.{Class, bool, onlyTrue, onlyFalse, u16, target, count, isOperand}
+use Rattle.lexemes.specs.Events.{Part, try, Event}
+use Rattle.lexemes.proofs.Tests.{kind-is}
+use Rattle.machine.specs.Plans.{Params, Plan, plain, listing, frame, function, within, trying, planOf, behindCount}
+use Rattle.machine.specs.Machine.{Nesting, top, inner, Handlers, no-handlers, after-try, after-catch, item, ended, list₀, list₁, Punctuation, kind-of, Symbol, mark, operand, flag, counted, opens, targets, level, Output, Move, stop, go, further, listed, start, move, Accepts, text, may-end, puts, finish, proceed, run}
+use Rattle.machine.proofs.Moves.{ends, ends₀, ends₁, Step, marks, gives, flags-true, flags-false, counts, block-opens, try-opens, has-target, skips, names, closes, catches, finishes-try, finishes-catch, begins, ends-at, lists-first, lists-next, Legal, halts, steps, legal}
+use Rattle.grammar.specs.Grammar.{Items, Blocks, block, Body, ofTry, no-newline, newline, Ended, text-ends, line-ends, Level, level as level-is, Written, ends as written-ends, names as names-label, acts, Block, braces, Bodies, no-body, one-body, try-body, Catch, no-catch, catches as catches-block, Finally, no-finally, finishes, Text}
+use Rattle.grammar.proofs.Plans.{Planned, fixed, any-number, biased, unbiased, parameters, block-alone, no-target, has-target as target-planned, taken, Further, no-further, next, Parted, empty, first, unparted}
 
 -- what a level leaves, and what is left behind it: nothing of a text, of a block what stands behind its brace
 data Rest : Nesting → List Lexeme → List Lexeme → Type 0 where

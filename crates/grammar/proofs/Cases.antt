@@ -5,7 +5,6 @@ use mathlib.Core.Bool.{true}
 use mathlib.Core.List.{List, [], _∷_, map}
 use mathlib.Core.Option.{Option, none, some}
 use Prim.Native.Nat.{ℕ, _+_}
-use lib.Dec.{leb}
 use lib.Ieee.{Float}
 use lib.IntN.{ℤ, pos, negℤ}
 use lib.ListN.{length}
@@ -17,13 +16,15 @@ use Rattle.tokens.specs.Tokens.{span}
 use Rattle.lexer.specs.Lexing.{lexText}
 use Rattle.values.specs.declared.PushValue.{PushValue}
 use Rattle.values.specs.declared.PushValue.the-variants as P
-use Rattle.grammar.specs.Operands.{Lexeme, lexeme, valueOf}
-use Rattle.grammar.specs.Grammar.{Part, Items}
+use Rattle.lexemes.specs.Lexemes.{Lexeme, lexeme}
+use Rattle.lexemes.specs.Operands.{valueOf}
+use Rattle.lexemes.specs.Events.{Part}
+use Rattle.grammar.specs.Grammar.{Items}
 use Rattle.grammar.specs.Reading.{Action, Operand, Level, Label, Reading, readingOf}
 use Rattle.grammar.specs.Nets.{Net, height, Nets, nets}
-use Rattle.grammar.specs.Refusals.{Answers}
-use Rattle.grammar.proofs.Unique.{events}
-use Rattle.grammar.proofs.Computed.{room, places, lexed, Lexed, emitted, fault-at, deep-at, run-of, text-of, read-as, six-at, seven-at, unlexed-at}
+use Rattle.grammar.specs.Refusals.{entries, Answers}
+use Rattle.grammar.specs.Trees.{events}
+use Rattle.grammar.proofs.Computed.{room, places, all-fit, lexed, Lexed, emitted, fault-at, deep-at, run-of, text-of, read-as, six-at, seven-at, unlexed-at}
 
 -- ---- entries
 
@@ -112,7 +113,7 @@ pub data AllTold : List Case → Type 0 where
 -- ---- by computation
 
 -- a text that reads as the tree x
-pub read-told : {s : List ℕ} {v : List (Option PushValue)} {l : List Net} (x : Items) → Lexed s → leb (length (lexed s)) 65536 ≡ true →
+pub read-told : {s : List ℕ} {v : List (Option PushValue)} {l : List Net} (x : Items) → Lexed s → all-fit places (entries (readingOf x)) ≡ true →
     run-of (lexed s) ≡ emitted (events x []) → valuesOf (accepted (readingOf x)) ≡ v → nets x ≡ l →
     Told (record { text = s; answer = accepted (readingOf x); values = v; nets = l })
 read-told {s = s} x e h r v n =

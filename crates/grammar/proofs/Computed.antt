@@ -1,26 +1,27 @@
 -- From a run of the limited machine on a text's tokens, by computation, to the text's answer: for claims on closed texts.
 -- Assumes nothing.
 use mathlib.Core.Path.{_≡_, sym, ap, _∙_, subst}
-use mathlib.Core.Bool.{true}
+use mathlib.Core.Bool.{Bool, true, false, _&&_, false≢true}
 use mathlib.Core.List.{List, [], _∷_}
-use Prim.Native.Nat.{ℕ, _+_, _≤_}
+use Prim.Native.Nat.{ℕ, zero, suc, _+_, _<_}
 use native.Mathlib.Omega.{arith}
 use lib.Dec.{leb}
-use lib.ListN.{length}
+use lib.ListN.{length, getD}
 use borrow.Author.Tests.{leb-true}
 use Rattle.answers.specs.Answers.{Answer, accepted, refused}
 use Rattle.tokens.specs.declared.Token.{Token}
 use Rattle.lexer.specs.Lexing.{lexText}
-use Rattle.grammar.specs.Operands.{Lexeme, numbered}
+use Rattle.lexemes.specs.Lexemes.{Lexeme, numbered}
+use Rattle.lexemes.specs.Events.{Event}
+use Rattle.lexemes.proofs.Tests.{both}
+use Rattle.machine.specs.Machine.{text}
+use Rattle.machine.specs.Depth.{Verdict, read, fault, too-deep, limited}
 use Rattle.grammar.specs.Grammar.{Items, Text}
-use Rattle.grammar.specs.Reading.{Reading, readingOf}
-use Rattle.grammar.specs.Refusals.{limit, Outcome, reads, Short, Answers, rows₁₋₅, rows₆₋₇, fits}
-use Rattle.grammar.proofs.Events.{Event}
-use Rattle.grammar.proofs.Machine.{text}
-use Rattle.grammar.proofs.Depth.{Verdict, read, fault, too-deep, limited}
-use Rattle.grammar.proofs.Unique.{Open, add, events, emits-lists, tree-told}
+use Rattle.grammar.specs.Reading.{readingOf}
+use Rattle.grammar.specs.Refusals.{limit, Outcome, entries, Answers, rows₁₋₅, rows₆₋₇, fits}
+use Rattle.grammar.specs.Trees.{events}
+use Rattle.grammar.proofs.Unique.{Open, add, emits-lists, tree-told}
 use Rattle.grammar.proofs.Outcomes.{Means, is-read, not-grammatical, opens-too-deep, meaning}
-use Rattle.grammar.proofs.Sizes.{ample}
 
 -- what a run tells: the events, or the tokens left at a refusal
 pub data Summary : Type 0 where
@@ -98,12 +99,22 @@ lexed s = numbered 0 s (tokens-of (lexText s room))
 abbrev pub Lexed : List ℕ → Type 0
 Lexed s = lexText s room ≡ accepted (tokens-of (lexText s room))
 
-roomy : {ts : List Lexeme} {R : Reading} → length ts ≤ 65536 → Outcome ts (accepted R) → (k : ℕ) → ¬ Short places R k
-roomy h (reads r f) = ample 65537 r (omega arith)
+-- no table needs more places than it has
+abbrev pub all-fit : List ℕ → List ℕ → Bool
+all-fit ps [] = true
+all-fit [] (n ∷ ns) = false
+all-fit (p ∷ ps) (n ∷ ns) = leb n p && all-fit ps ns
+
+none-short : (ps ns : List ℕ) → all-fit ps ns ≡ true → (k : ℕ) → ¬ (getD ps k 0 < getD ns k 0)
+none-short ps [] h zero o = omega arith
+none-short ps [] h (suc k) o = omega arith
+none-short [] (n ∷ ns) h k o = absurd (false≢true h)
+none-short (p ∷ ps) (n ∷ ns) h zero o = omega (arith, leb-true n p (both (leb n p) (all-fit ps ns) h .0))
+none-short (p ∷ ps) (n ∷ ns) h (suc k) o = none-short ps ns (both (leb n p) (all-fit ps ns) h .1) k o
 
 module _ (s : List ℕ) where
-  pub read-as : (x : Items) → Lexed s → leb (length (lexed s)) 65536 ≡ true → run-of (lexed s) ≡ emitted (events x []) → Answers room places s (accepted (readingOf x))
-  read-as x e h g = let o = is-read-as (lexed s) x (run-means (lexed s)) g .1 in fits e o (roomy (leb-true (length (lexed s)) 65536 h) o)
+  pub read-as : (x : Items) → Lexed s → all-fit places (entries (readingOf x)) ≡ true → run-of (lexed s) ≡ emitted (events x []) → Answers room places s (accepted (readingOf x))
+  read-as x e h g = fits e (is-read-as (lexed s) x (run-means (lexed s)) g .1) (none-short places (entries (readingOf x)) h)
 
   pub six-at : (k n : ℕ) → Lexed s → k + n ≡ length (lexed s) → run-of (lexed s) ≡ fault-at n → Answers room places s (refused 6 k)
   six-at k n e h g = rows₆₋₇ e (is-fault-at (lexed s) k n h (run-means (lexed s)) g)

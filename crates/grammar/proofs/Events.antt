@@ -1,35 +1,13 @@
 -- What a tree emits, in the order of the text: its actions, labels, operands and blocks. Any `emit` may take it down.
 -- Assumes nothing.
-use mathlib.Core.List.{List, [], _∷_}
-use Rattle.names.specs.declared.ActionName.{ActionName}
-use Rattle.grammar.specs.Operands.{Lexeme}
-use Rattle.grammar.specs.Grammar.{Part, body, try, catch, finally, Items, done, label, action, Blocks, no-blocks, block}
-
-pub data Event : Type 0 where
-  acted : ActionName → Event
-  named given : Lexeme → Event
-  opened : Part → Event
-  closed : Event
-
--- of an action's operands, those that come before a block of it and those that wait: a Try's target waits for the block behind
--- the first one
-abbrev pub leading : Part → List Lexeme → List Lexeme
-leading body os = os
-leading try os = []
-leading catch os = os
-leading finally os = os
-
-abbrev pub waiting : Part → List Lexeme → List Lexeme
-waiting body os = []
-waiting try os = os
-waiting catch os = []
-waiting finally os = []
+use mathlib.Core.List.{List}
+use Rattle.lexemes.specs.Lexemes.{Lexeme}
+use Rattle.lexemes.specs.Events.{Event, acted, named, opened, closed}
+use Rattle.machine.proofs.Runs.{gives}
+use Rattle.grammar.specs.Grammar.{Items, done, label, action, Blocks, no-blocks, block}
+use Rattle.grammar.specs.Trees.{leading, waiting}
 
 module _ {S : Type 0} (emit : Event → S → S) where
-  abbrev pub gives : List Lexeme → S → S
-  gives [] s = s
-  gives (t ∷ os) s = gives os (emit (given t) s)
-
   abbrev mutual
     pub emits : Items → S → S
     emits done s = s
@@ -38,5 +16,5 @@ module _ {S : Type 0} (emit : Event → S → S) where
 
     -- blocks, with the operands that are still to be given
     pub emits-blocks : Blocks → List Lexeme → S → S
-    emits-blocks no-blocks os s = gives os s
-    emits-blocks (block p x bs) os s = emits-blocks bs (waiting p os) (emit closed (emits x (emit (opened p) (gives (leading p os) s))))
+    emits-blocks no-blocks os s = gives emit os s
+    emits-blocks (block p x bs) os s = emits-blocks bs (waiting p os) (emit closed (emits x (emit (opened p) (gives emit (leading p os) s))))

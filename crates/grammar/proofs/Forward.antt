@@ -10,13 +10,17 @@ use Rattle.shapes.specs.Shapes.{shapeOf}
 use Rattle.tokens.specs.declared.TokenKind.the-variants as K
 use Rattle.tokens.specs.Kinds.{isKind}
 use Rattle.numbers.specs.Integers.{integer}
-use Rattle.grammar.specs.Operands.{Lexeme, lexeme, Class, string, bool, onlyTrue, onlyFalse, u16, target, count, isOperand, actsAs}
-use Rattle.grammar.specs.Grammar.{Part, body, try, catch, finally, Items, Blocks, Body, nothing, one, ofTry, Newlines, no-newline, newline, Ended, text-ends, line-ends, Level, level as level-is, Written, ends as written-ends, names, acts, Block, braces, Bodies, no-body, one-body, try-body, Catch, no-catch, catches, Finally, no-finally, finishes, Text}
-use Rattle.grammar.proofs.Tests.{both, other, operand-not, newline as newline-mark, open-brace, acts-known}
-use Rattle.grammar.proofs.Plans.{Params, Plan, plain, listing, frame, function, within, trying, planOf, behindCount, Planned, fixed, any-number, biased, unbiased, parameters, block-alone, no-target, has-target, planned, Further, no-further, next, Parted, empty, first, parted, AtMostOne, none-there, one-there, Few, few}
-use Rattle.grammar.proofs.Events.{Event, acted, named, given, opened, closed, gives, emits, emits-blocks}
-use Rattle.grammar.proofs.Machine.{Nesting, top, inner, Handlers, no-handlers, after-try, after-catch, State, item, ended, list₀, list₁, p-comma, Symbol, mark, operand, flag, counted, opens, targets, level, Output, silent, out, target-out, go, further, listed, start, move, Answer, accepted, text, puts, run, on-finally}
-use Rattle.grammar.proofs.Moves.{Ends, ends, ends₀, ends₁}
+use Rattle.lexemes.specs.Lexemes.{Lexeme, lexeme}
+use Rattle.lexemes.specs.Operands.{Class, string, bool, onlyTrue, onlyFalse, u16, target, count, isOperand, actsAs}
+use Rattle.lexemes.specs.Events.{Part, body, try, catch, finally, Event, acted, named, given, opened, closed}
+use Rattle.lexemes.proofs.Tests.{both, other, operand-not, newline as newline-mark, open-brace, acts-known}
+use Rattle.machine.specs.Plans.{Params, Plan, plain, listing, frame, function, within, trying, planOf, behindCount}
+use Rattle.machine.specs.Machine.{Nesting, top, inner, Handlers, no-handlers, after-try, after-catch, State, item, ended, list₀, list₁, p-comma, Symbol, mark, operand, flag, counted, opens, targets, level, silent, out, target-out, go, further, listed, start, move, Answer, accepted, text, puts, run, on-finally}
+use Rattle.machine.proofs.Moves.{Ends, ends, ends₀, ends₁}
+use Rattle.machine.proofs.Runs.{gives, moves}
+use Rattle.grammar.specs.Grammar.{Items, Blocks, Body, nothing, one, ofTry, Newlines, no-newline, newline, Ended, text-ends, line-ends, Level, level as level-is, Written, ends as written-ends, names, acts, Block, braces, Bodies, no-body, one-body, try-body, Catch, no-catch, catches, Finally, no-finally, finishes, Text}
+use Rattle.grammar.proofs.Plans.{Planned, fixed, any-number, biased, unbiased, parameters, block-alone, no-target, has-target, planned, Further, no-further, next, Parted, empty, first, parted, AtMostOne, none-there, one-there, Few, few}
+use Rattle.grammar.proofs.Events.{emits, emits-blocks}
 
 -- ---- single moves
 
@@ -43,11 +47,6 @@ target-of [] = none
 target-of (t ∷ os) = some t
 
 module _ {S : Type 0} (emit : Event → S → S) where
-  -- a run goes on by a move
-  pub moves : (a : Symbol) (t : Lexeme) {α : List Symbol} {o : Output} (σ : List Symbol) (s : S) (ts : List Lexeme) → move a t ≡ go α o →
-      run emit (a ∷ σ) s (t ∷ ts) ≡ run emit (α ++ σ) (puts emit o s) ts
-  moves a t σ s ts h = rw h
-
   -- ---- operands
 
   operand-runs : (c : Class) (t : Lexeme) (σ : List Symbol) (s : S) (ts : List Lexeme) → isOperand c t ≡ true →
@@ -80,7 +79,7 @@ module _ {S : Type 0} (emit : Event → S → S) where
       run emit (level e (list₀ c) ∷ σ) s ts ≡ run emit (level e (behind-list c os) ∷ σ) (gives emit os s) r
   list-runs e c zero σ s empty = refl
   list-runs e c (suc k) σ s (first {t = t} {ts = ts} h d) =
-      moves (level e (list₀ c)) t σ s ts (list-move e c t h) ∙ list-further e c k σ (emit (given t) s) d
+      moves emit (level e (list₀ c)) t σ s ts (list-move e c t h) ∙ list-further e c k σ (emit (given t) s) d
 
   -- ---- what follows an action's word, up to its blocks
 
@@ -111,16 +110,16 @@ module _ {S : Type 0} (emit : Event → S → S) where
   operands-run e σ s (fixed {cs = cs}) q b = rw (append-assoc (listed cs) (level e (ended no-handlers) ∷ []) σ) (parted-runs cs (level e (ended no-handlers) ∷ σ) s q)
   operands-run e σ s (any-number {c = c} k) q b = list-runs e c k σ s q
   operands-run e σ s biased (first {t = t} {ts = ts} h d) b =
-      moves flag t (level e (ended no-handlers) ∷ σ) s ts (true-move t h) ∙ further-runs (bool ∷ u16 ∷ []) (level e (ended no-handlers) ∷ σ) (emit (given t) s) d
+      moves emit flag t (level e (ended no-handlers) ∷ σ) s ts (true-move t h) ∙ further-runs (bool ∷ u16 ∷ []) (level e (ended no-handlers) ∷ σ) (emit (given t) s) d
   operands-run e σ s unbiased (first {t = t} {ts = ts} h d) b =
-      moves flag t (level e (ended no-handlers) ∷ σ) s ts (false-move t h) ∙ further-runs (bool ∷ []) (level e (ended no-handlers) ∷ σ) (emit (given t) s) d
+      moves emit flag t (level e (ended no-handlers) ∷ σ) s ts (false-move t h) ∙ further-runs (bool ∷ []) (level e (ended no-handlers) ∷ σ) (emit (given t) s) d
   operands-run e σ s (parameters {f = f} k) (first {t = t} h (next {i = i} {w = w} {t = t′} {ts = ts} h′ d)) b =
       operand-runs string t (mark p-comma ∷ counted f ∷ opens body ∷ level e (ended no-handlers) ∷ σ) s (lexeme i K.Comma w ∷ t′ ∷ ts) h
-      ∙ moves (counted f) t′ (opens body ∷ level e (ended no-handlers) ∷ σ) (emit (given t) s) ts (count-move f k t′ h′)
+      ∙ moves emit (counted f) t′ (opens body ∷ level e (ended no-handlers) ∷ σ) (emit (given t) s) ts (count-move f k t′ h′)
       ∙ further-runs (behindCount f k) (opens body ∷ level e (ended no-handlers) ∷ σ) (emit (given t′) (emit (given t) s)) d
   operands-run e σ s block-alone empty b = refl
   operands-run e σ s no-target empty (try-body (braces x) c) = refl
-  operands-run e σ s has-target (first {t = t} {ts = ts} h no-further) b = moves (targets e) t σ s ts (target-move e t h)
+  operands-run e σ s has-target (first {t = t} {ts = ts} h no-further) b = moves emit (targets e) t σ s ts (target-move e t h)
 
   -- ---- levels and blocks
 
@@ -228,7 +227,7 @@ module _ {S : Type 0} (emit : Event → S → S) where
     finally-runs no-finally h g e σ s = refl
     finally-runs (finishes {j = j} {v = v} {u = u} n d) h g e σ s =
         newlines-run e h σ s n
-        ∙ moves (level e (item h)) (lexeme j K.Finally v) σ s u (g e)
+        ∙ moves emit (level e (item h)) (lexeme j K.Finally v) σ s u (g e)
         ∙ block-runs d finally (level e (ended no-handlers) ∷ σ) s
 
   -- a whole text is accepted, with what its tree emits

@@ -1,17 +1,12 @@
-pub mod Tests
 pub mod Plans
 pub mod Events
-pub mod Machine
-pub mod Moves
 pub mod Forward
 pub mod Backward
-pub mod Complete
 pub mod Place
 pub mod Unique
 pub mod Sizes
 pub mod LabelRange
 pub mod NetBounds
-pub mod Depth
 pub mod Outcomes
 pub mod Texts
 pub mod Computed

@@ -15,12 +15,13 @@ use Rattle.names.specs.declared.ActionName.{ActionName}
 use Rattle.names.specs.declared.ActionName.the-variants as A
 use Rattle.actions.specs.Numbers.{isAction, oneOf}
 use Rattle.pcode.specs.Deltas.{deltaOf, fixedDelta, plusOne, minusOne, minusTwo, minusThree, undetermined, functions}
-use Rattle.grammar.specs.Operands.{Lexeme}
+use Rattle.lexemes.specs.Lexemes.{Lexeme}
+use Rattle.lexemes.proofs.Tests.{either}
 use Rattle.grammar.specs.Grammar.{Items, done, label, action, Blocks, no-blocks, block}
 use Rattle.grammar.specs.Reading.{Opened, opened, openedOf, openedIn, actionsInside, allActions}
 use Rattle.grammar.specs.Nets.{Net, height, undetermined as no-height, Nets, nets, netFrom, moved, nameIsEmpty}
-use Rattle.grammar.proofs.Tests.{either}
-use Rattle.grammar.proofs.Sizes.{fits-size, size, sizes}
+use Rattle.grammar.specs.Trees.{size, sizes}
+use Rattle.grammar.proofs.Sizes.{fits-size}
 
 -- ---- sums
 

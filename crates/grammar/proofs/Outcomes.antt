@@ -10,19 +10,21 @@ use lib.ListN.{length, take, drop, getD, length-append, length-drop, List·getD-
 use lib.Seq.{take-at, take-suc, getD-at, split-at}
 use Rattle.answers.specs.Answers.{Answer, accepted, refused}
 use Rattle.tokens.specs.declared.TokenKind.the-variants as K
-use Rattle.grammar.specs.Operands.{Lexeme, lexeme}
+use Rattle.lexemes.specs.Lexemes.{Lexeme, lexeme, isOf, countOf}
+use Rattle.lexemes.specs.Events.{Event}
+use Rattle.machine.specs.Machine.{Accepts, text, run}
+use Rattle.machine.specs.Machine as M
+use Rattle.machine.specs.Depth.{Verdict, read, fault, too-deep, verdict, limited}
+use Rattle.machine.proofs.Complete.{bottom}
+use Rattle.machine.proofs.Depth.{Over, Judged, as-run, over, judge}
 use Rattle.grammar.specs.Grammar.{Items, Text}
 use Rattle.grammar.specs.Reading.{Reading, readingOf}
-use Rattle.grammar.specs.Refusals.{isOf, countOf, Begins, NotGrammatical, TooDeep, limit, Outcome, row₆, row₇, reads}
-use Rattle.grammar.proofs.Events.{Event, emits}
-use Rattle.grammar.proofs.Machine.{Accepts, text, run}
-use Rattle.grammar.proofs.Machine as M
+use Rattle.grammar.specs.Refusals.{Begins, NotGrammatical, TooDeep, limit, Outcome, row₆, row₇, reads}
+use Rattle.grammar.proofs.Events.{emits}
 use Rattle.grammar.proofs.Forward.{text-runs}
 use Rattle.grammar.proofs.Backward.{text-back}
-use Rattle.grammar.proofs.Complete.{bottom}
 use Rattle.grammar.proofs.Place.{begins-of, can-of, up-to, first-bad, ends-early, one-place, unread, bad-later}
 use Rattle.grammar.proofs.Unique.{one-told}
-use Rattle.grammar.proofs.Depth.{Verdict, read, fault, too-deep, verdict, limited, Over, Judged, as-run, over, judge}
 
 -- a brace too many stands inside
 deep-inside : {ts : List Lexeme} {k : ℕ} → TooDeep ts k → k < length ts

@@ -1,48 +1,17 @@
--- How a pushdown machine reads what an action takes: six plans for the fifteen shapes, and operands as a first one and
--- further ones, each behind its comma. Assumes nothing.
+-- What an action takes by the grammar, in the machine's plans, and operands as a first one and further ones, each behind its
+-- comma. Assumes nothing.
 use mathlib.Core.Path.{_≡_}
 use mathlib.Core.Bool.{true}
-use mathlib.Core.List.{List, [], _∷_, _++_}
+use mathlib.Core.List.{List, [], _∷_}
 use Prim.Native.Nat.{ℕ}
 use lib.ListN.{replicate}
 use Rattle.shapes.specs.declared.Shape.{Shape}
 use Rattle.shapes.specs.declared.Shape.the-variants as S
 use Rattle.tokens.specs.declared.TokenKind.the-variants as K
-use Rattle.grammar.specs.Operands.{Lexeme, lexeme, Class, string, value, bool, onlyTrue, onlyFalse, u8, u16, identifier, target, count, isOperand}
-use Rattle.grammar.specs.Grammar.{Body, nothing, one, ofTry, pairs, Takes, push, constantPool, getUrl, getUrl2, gotoFrame, gotoFrame2, gotoFrame2Bias, gotoLabel, jumpTo, storeRegister, waitForFrame, defineFunction, defineFunction2, withBlock, tryPlain, tryTarget, others, Operands, no-operand, last, comma}
-
--- a function's parameters: names, or pairs of a register and a name behind a register count and nine flags
-pub data Params : Type 0 where
-  simple registers : Params
-
-pub data Plan : Type 0 where
-  plain : List Class → Plan
-  listing : Class → Plan
-  frame : Plan
-  function : Params → Plan
-  within trying : Plan
-
-abbrev pub planOf : Shape → Plan
-planOf S.Nothing = plain []
-planOf S.Values = listing value
-planOf S.Strings = listing string
-planOf S.StringString = plain (string ∷ string ∷ [])
-planOf S.BoolBoolU8 = plain (bool ∷ bool ∷ u8 ∷ [])
-planOf S.U16 = plain (u16 ∷ [])
-planOf S.BoolBoolMaybeU16 = frame
-planOf S.String = plain (string ∷ [])
-planOf S.Identifier = plain (identifier ∷ [])
-planOf S.U8 = plain (u8 ∷ [])
-planOf S.U16U8 = plain (u16 ∷ u8 ∷ [])
-planOf S.Function = function simple
-planOf S.Function2 = function registers
-planOf S.Block = within
-planOf S.Try = trying
-
--- what stands behind the count k
-abbrev pub behindCount : Params → ℕ → List Class
-behindCount simple k = replicate k string
-behindCount registers k = u8 ∷ (replicate 9 bool ++ pairs k)
+use Rattle.lexemes.specs.Lexemes.{Lexeme, lexeme}
+use Rattle.lexemes.specs.Operands.{Class, string, bool, onlyTrue, onlyFalse, u16, target, count, isOperand}
+use Rattle.machine.specs.Plans.{Params, Plan, plain, listing, frame, function, within, trying, planOf, behindCount}
+use Rattle.grammar.specs.Grammar.{Body, nothing, one, ofTry, Takes, push, constantPool, getUrl, getUrl2, gotoFrame, gotoFrame2, gotoFrame2Bias, gotoLabel, jumpTo, storeRegister, waitForFrame, defineFunction, defineFunction2, withBlock, tryPlain, tryTarget, others, Operands, no-operand, last, comma}
 
 pub data Planned : Plan → List Class → Body → Type 0 where
   fixed : {cs : List Class} → Planned (plain cs) cs nothing

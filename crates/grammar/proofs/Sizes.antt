@@ -5,23 +5,13 @@ use Prim.Native.Nat.{ℕ, zero, suc, _+_, _*_, _-_, _≤_}
 use native.Mathlib.Nat.{add-suc, add-zero, suc-add, zero-add}
 use native.Mathlib.Omega.{arith}
 use lib.ListN.{length, length-append, length-map}
-use Rattle.grammar.specs.Operands.{Lexeme, Class, raw}
+use Rattle.lexemes.specs.Lexemes.{Lexeme, raw}
+use Rattle.lexemes.specs.Operands.{Class}
+use Rattle.lexemes.proofs.Tests.{either}
 use Rattle.grammar.specs.Grammar.{Items, done, label, action, Blocks, no-blocks, block, Body, Operands, no-operand, last, comma, Newlines, no-newline, newline, Ended, text-ends, line-ends, Level, level, Written, ends, names, acts, Block, braces, Bodies, no-body, one-body, try-body, Catch, no-catch, catches, Finally, no-finally, finishes, Text}
 use Rattle.grammar.specs.Reading.{Reading, Label, Opened, Acted, Reads, readingOf, openedOf, openedIn, actedOf, actedIn, allActions, actionsInside, operandsFrom, sameName, place, ownLabels, labelsFrom}
 use Rattle.grammar.specs.Refusals.{Short}
-use Rattle.grammar.proofs.Tests.{either}
-
-abbrev mutual
-  -- a label counts its name, an action its own token and its operands
-  pub size : Items → ℕ
-  size done = 0
-  size (label t x) = suc (size x)
-  size (action n os bs x) = suc (length os + sizes bs + size x)
-
-  -- a block counts its brace
-  pub sizes : Blocks → ℕ
-  sizes no-blocks = 0
-  sizes (block p x bs) = suc (size x + sizes bs)
+use Rattle.grammar.specs.Trees.{size, sizes}
 
 -- ---- what is derived takes its size
 

@@ -23,8 +23,9 @@ use Rattle.lexer.specs.First.{classOf, numberAt, returnAt, stringAt, wordAt}
 use Rattle.lexer.specs.Lexing.{lexFrom, lexText}
 use Rattle.values.specs.declared.PushValue.the-variants as P
 use Rattle.values.specs.Values.{wordValue, floatValue, integerValue, pushValue}
-use Rattle.grammar.specs.Operands.{lexeme}
-use Rattle.grammar.specs.Grammar.{body, done, label, action, no-blocks, block}
+use Rattle.lexemes.specs.Lexemes.{lexeme}
+use Rattle.lexemes.specs.Events.{body}
+use Rattle.grammar.specs.Grammar.{done, label, action, no-blocks, block}
 use Rattle.grammar.specs.Reading.{readingOf}
 use Rattle.grammar.specs.Nets.{nets}
 use Rattle.grammar.proofs.Cases.{act, op, top, of, at, up, down, whole, double, letters, Case, reads, refuses, AllTold, no-more, _also_, read-told, six-told, lexing-told}

@@ -10,7 +10,7 @@ use borrow.Author.Tests.{ltb-true, ltb-false}
 use Rattle.answers.specs.Answers.{Answer, accepted, refused}
 use Rattle.tokens.specs.declared.Token.{Token}
 use Rattle.lexer.specs.Lexing.{lexText}
-use Rattle.grammar.specs.Operands.{numbered}
+use Rattle.lexemes.specs.Lexemes.{numbered}
 use Rattle.grammar.specs.Reading.{Reading}
 use Rattle.grammar.specs.Refusals.{Outcome, entries, Short, Answers, rows₁₋₅, rows₆₋₇, row₈, fits}
 use Rattle.grammar.proofs.Outcomes.{outcome, one-outcome}
@@ -75,10 +75,10 @@ module _ (room : ℕ) (places text : List ℕ) where
 
 -- ---- and only one
 
-unlike : {A B : Type 0} {q : Answer A} {a : A} {n p : ℕ} → q ≡ accepted a → q ≡ refused n p → B
+pub unlike : {A B : Type 0} {q : Answer A} {a : A} {n p : ℕ} → q ≡ accepted a → q ≡ refused n p → B
 unlike {n = n} h g = absurd (let z : _≡_ {A = ℕ} 0 1 = cc in omega arith)
 
-same-accepted : {A : Type 0} {q : Answer A} {a b : A} → q ≡ accepted a → q ≡ accepted b → a ≡ b
+pub same-accepted : {A : Type 0} {q : Answer A} {a b : A} → q ≡ accepted a → q ≡ accepted b → a ≡ b
 same-accepted h g = cc
 
 same-refused : {A B : Type 0} {q : Answer A} {n p m o : ℕ} → q ≡ refused n p → q ≡ refused m o → _≡_ {A = Answer B} (refused n p) (refused m o)

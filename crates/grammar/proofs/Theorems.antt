@@ -9,7 +9,7 @@ use lib.IntN.{ℤ, pos, negℤ}
 use lib.ListN.{length, getD}
 use lib.Signed.{_≤ℤ_}
 use Rattle.answers.specs.Answers.{Answer}
-use Rattle.grammar.specs.Operands.{Lexeme}
+use Rattle.lexemes.specs.Lexemes.{Lexeme}
 use Rattle.grammar.specs.Reading.{Reading, Level, Label, Reads, Grammatical}
 use Rattle.grammar.specs.Nets.{Net, height, Nets}
 use Rattle.grammar.specs.Refusals.{NotGrammatical, Outcome, Short, Answers}

@@ -5,27 +5,15 @@ use mathlib.Core.List.{List, [], _∷_}
 use Prim.Native.Nat.{ℕ, _≤_}
 use native.Mathlib.Omega.{arith}
 use Rattle.names.specs.declared.ActionName.{ActionName}
-use Rattle.grammar.specs.Operands.{Lexeme}
-use Rattle.grammar.specs.Grammar.{Part, body, try, catch, finally, Items, done, label, action, Blocks, no-blocks, block, Text}
+use Rattle.lexemes.specs.Lexemes.{Lexeme}
+use Rattle.lexemes.specs.Events.{Part, body, try, catch, finally, Event, acted, named, given, opened, closed}
+use Rattle.machine.specs.Machine.{Answer, accepted, refused, text, run}
+use Rattle.machine.proofs.Runs.{gives}
+use Rattle.grammar.specs.Grammar.{Items, done, label, action, Blocks, no-blocks, block, Text}
 use Rattle.grammar.specs.Reading.{Has}
-use Rattle.grammar.proofs.Events.{Event, acted, named, given, opened, closed, leading, waiting, gives, emits, emits-blocks}
-use Rattle.grammar.proofs.Machine.{Answer, accepted, refused, text, run}
+use Rattle.grammar.specs.Trees.{leading, waiting, givens, events, block-events}
+use Rattle.grammar.proofs.Events.{emits, emits-blocks}
 use Rattle.grammar.proofs.Forward.{text-runs}
-
--- the events of a tree, before the events k
-abbrev pub givens : List Lexeme → List Event → List Event
-givens [] k = k
-givens (t ∷ os) k = given t ∷ givens os k
-
-abbrev mutual
-  pub events : Items → List Event → List Event
-  events done k = k
-  events (label t x) k = named t ∷ events x k
-  events (action n os bs x) k = acted n ∷ block-events bs os (events x k)
-
-  pub block-events : Blocks → List Lexeme → List Event → List Event
-  block-events no-blocks os k = givens os k
-  block-events (block p x bs) os k = givens (leading p os) (opened p ∷ events x (closed ∷ block-events bs (waiting p os) k))
 
 -- an output that lists the events: a list with its end open
 abbrev pub Open : Type 0

@@ -3,18 +3,16 @@
 use mathlib.Core.Path.{_≡_}
 use mathlib.Core.Bool.{true}
 use mathlib.Core.List.{List, [], _∷_, _++_}
-use Prim.Native.Nat.{ℕ, zero, suc}
+use Prim.Native.Nat.{ℕ}
 use lib.ListN.{replicate}
 use Rattle.names.specs.declared.ActionName.{ActionName}
 use Rattle.shapes.specs.declared.Shape.{Shape}
 use Rattle.shapes.specs.declared.Shape.the-variants as S
 use Rattle.shapes.specs.Shapes.{shapeOf}
 use Rattle.tokens.specs.declared.TokenKind.the-variants as K
-use Rattle.grammar.specs.Operands.{Lexeme, lexeme, Class, string, value, bool, onlyTrue, onlyFalse, u8, u16, identifier, target, count, isOperand}
-
--- which block of its action a block is
-pub data Part : Type 0 where
-  body try catch finally : Part
+use Rattle.lexemes.specs.Lexemes.{Lexeme, lexeme}
+use Rattle.lexemes.specs.Operands.{Class, string, value, bool, onlyTrue, onlyFalse, u8, u16, identifier, target, count, pairs, isOperand}
+use Rattle.lexemes.specs.Events.{Part, body, try, catch, finally}
 
 mutual
   -- the labels and actions of a level in written order; an action has its name, its operand entries and its blocks
@@ -32,11 +30,6 @@ mutual
 -- the blocks behind its operands: none, one, or those of a Try
 pub data Body : Type 0 where
   nothing one ofTry : Body
-
--- count pairs of u8, string
-abbrev pub pairs : ℕ → List Class
-pairs zero = []
-pairs (suc k) = u8 ∷ string ∷ pairs k
 
 -- by its shape: the classes of its operands, and its blocks. Shapes are named by their operands; the rules here, by an
 -- action that has them

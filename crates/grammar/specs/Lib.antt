@@ -1,5 +1,5 @@
-pub mod Operands
 pub mod Grammar
 pub mod Reading
 pub mod Nets
 pub mod Refusals
+pub mod Trees

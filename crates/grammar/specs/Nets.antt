@@ -7,7 +7,7 @@ use Prim.Native.Nat.{ℕ, suc, _+_}
 use lib.IntN.{ℤ, pos, _+ℤ_}
 use lib.ListN.{length}
 use Rattle.pcode.specs.Deltas.{deltaOf}
-use Rattle.grammar.specs.Operands.{Lexeme, lexeme}
+use Rattle.lexemes.specs.Lexemes.{Lexeme, lexeme}
 use Rattle.grammar.specs.Grammar.{Items, done, label, action}
 use Rattle.grammar.specs.Reading.{Opened, opened, actionsInside, Has}
 

@@ -7,8 +7,9 @@ use Prim.Native.Nat.{ℕ, suc, _+_}
 use lib.Dec.{eqb}
 use lib.ListN.{length}
 use Rattle.names.specs.declared.ActionName.{ActionName}
-use Rattle.grammar.specs.Operands.{Lexeme, raw}
-use Rattle.grammar.specs.Grammar.{Part, Items, done, label, action, Blocks, no-blocks, block, Text}
+use Rattle.lexemes.specs.Lexemes.{Lexeme, raw}
+use Rattle.lexemes.specs.Events.{Part}
+use Rattle.grammar.specs.Grammar.{Items, done, label, action, Blocks, no-blocks, block, Text}
 
 pub record Action : Type 0 where
   pub name : ActionName

@@ -1,6 +1,6 @@
 -- Refusals 6, 7 and 8, and what reading answers: document 01, the table in 'The call' and what stands under it.
 use mathlib.Core.Path.{_≡_}
-use mathlib.Core.Bool.{Bool, true, cond}
+use mathlib.Core.Bool.{true}
 use mathlib.Core.List.{List, [], _∷_, _++_}
 use mathlib.Core.Logic.{_⊎_}
 use Prim.Native.Nat.{ℕ, suc, _+_, _<_, _≤_}
@@ -8,10 +8,8 @@ use lib.ListN.{length, take, getD}
 use Rattle.answers.specs.Answers.{Answer, accepted, refused}
 use Rattle.lexer.specs.Lexing.{lexText}
 use Rattle.tokens.specs.declared.Token.{Token}
-use Rattle.tokens.specs.declared.TokenKind.{TokenKind}
 use Rattle.tokens.specs.declared.TokenKind.the-variants as K
-use Rattle.tokens.specs.Kinds.{isKind}
-use Rattle.grammar.specs.Operands.{Lexeme, lexeme, numbered}
+use Rattle.lexemes.specs.Lexemes.{Lexeme, lexeme, numbered, isOf, countOf}
 use Rattle.grammar.specs.Reading.{Reading, Reads, Grammatical}
 
 -- some grammatical list begins with p
@@ -40,14 +38,6 @@ NotGrammatical ts k = FirstBad ts k ⊎ EndsEarly ts k
 -- so many blocks may be open at once
 abbrev pub limit : ℕ
 limit = 64
-
-abbrev pub isOf : TokenKind → Lexeme → Bool
-isOf k (lexeme i l w) = isKind l k
-
--- how many tokens of a kind a list has
-abbrev pub countOf : TokenKind → List Lexeme → ℕ
-countOf k [] = 0
-countOf k (t ∷ ts) = cond (isOf k t) (suc (countOf k ts)) (countOf k ts)
 
 -- at k stands a `{` that some grammatical list has after the tokens before it, while `limit` blocks or more are open: the
 -- `{` before it less the `}` before it

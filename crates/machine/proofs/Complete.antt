@@ -14,12 +14,14 @@ use Rattle.tokens.specs.Kinds.{codeOf}
 use Rattle.scanner.specs.Bytes.{runOf}
 use Rattle.numbers.specs.Integers.{withByte, valueFrom, upTo, isNatural, natural, integer}
 use Rattle.values.specs.Values.{pushValue}
-use Rattle.grammar.specs.Operands.{Lexeme, lexeme, Class, string, value, bool, onlyTrue, onlyFalse, u8, u16, identifier, target, count, isOperand}
-use Rattle.grammar.proofs.Tests.{both}
-use Rattle.grammar.proofs.Plans.{Params, simple, registers, Plan, plain, listing, frame, function, within, trying, planOf, behindCount}
-use Rattle.grammar.proofs.Events.{Event, given, gives as gives-all}
-use Rattle.grammar.proofs.Machine.{Nesting, top, inner, no-handlers, after-try, after-catch, State, item, ended, list₀, list₁, kind-of, Symbol, mark, operand, flag, counted, opens, targets, level, Output, out, go, further, listed, start, move, Answer, Accepts, run}
-use Rattle.grammar.proofs.Moves.{Step, marks, gives, flags-true, flags-false, counts, block-opens, try-opens, has-target, skips, names, closes, catches, finishes-try, finishes-catch, begins, ends-at, lists-first, lists-next}
+use Rattle.lexemes.specs.Lexemes.{Lexeme, lexeme}
+use Rattle.lexemes.specs.Operands.{Class, string, value, bool, onlyTrue, onlyFalse, u8, u16, identifier, target, count, isOperand}
+use Rattle.lexemes.specs.Events.{Event, given}
+use Rattle.lexemes.proofs.Tests.{both}
+use Rattle.machine.specs.Plans.{Params, simple, registers, Plan, plain, listing, frame, function, within, trying, planOf, behindCount}
+use Rattle.machine.specs.Machine.{Nesting, top, inner, no-handlers, after-try, after-catch, State, item, ended, list₀, list₁, kind-of, Symbol, mark, operand, flag, counted, opens, targets, level, Output, out, go, further, listed, start, move, Answer, Accepts, run}
+use Rattle.machine.proofs.Moves.{Step, marks, gives, flags-true, flags-false, counts, block-opens, try-opens, has-target, skips, names, closes, catches, finishes-try, finishes-catch, begins, ends-at, lists-first, lists-next}
+use Rattle.machine.proofs.Runs.{gives as gives-all}
 
 -- ---- the stacks that can be reached: the whole text's level is at the bottom and nowhere else; a count has its own symbol
 

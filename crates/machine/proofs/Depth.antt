@@ -1,4 +1,4 @@
--- The limit on open blocks: the machine with a count of the blocks that may still open. Assumes nothing.
+-- The limited machine reads as the machine does, up to the first brace that opens a block too many. Assumes nothing.
 use mathlib.Core.Path.{_≡_, refl, sym, ap, _∙_, subst}
 use mathlib.Core.Bool.{Bool, true, false, cond, false≢true}
 use mathlib.Core.Option.{Option, some, none}
@@ -9,15 +9,15 @@ use lib.ListN.{length, length-append}
 use Rattle.tokens.specs.declared.TokenKind.{TokenKind}
 use Rattle.tokens.specs.declared.TokenKind.the-variants as K
 use Rattle.tokens.specs.Kinds.{isKind}
-use Rattle.grammar.specs.Operands.{Lexeme, lexeme, Class, onlyTrue, onlyFalse, target, count, isOperand}
-use Rattle.grammar.specs.Refusals.{isOf, countOf}
-use Rattle.grammar.proofs.Tests.{Mark, open-brace, close-brace, operand-not, other}
-use Rattle.grammar.proofs.Events.{Event, acted, named, given, opened, closed}
-use Rattle.grammar.proofs.Machine.{Punctuation, p-comma, p-colon, kind-of, Symbol, target-out, Output, silent, out, Move, stop, go, move, Answer, accepted, refused, may-end, puts, finish, run}
-use Rattle.grammar.proofs.Moves.{Step, marks, gives, flags-true, flags-false, counts, block-opens, try-opens, has-target, skips, names, closes, catches, finishes-try, finishes-catch, begins, ends-at, lists-first, lists-next, Legal, halts, steps, legal}
-use Rattle.grammar.proofs.Forward.{moves}
-use Rattle.grammar.proofs.Complete.{Good, step-good, complete}
-use Rattle.grammar.proofs.Place.{Can, moved, moved⁻, blocked}
+use Rattle.lexemes.specs.Lexemes.{Lexeme, lexeme, isOf, countOf}
+use Rattle.lexemes.specs.Operands.{Class, onlyTrue, onlyFalse, target, count, isOperand}
+use Rattle.lexemes.specs.Events.{Event, acted, named, given, opened, closed}
+use Rattle.lexemes.proofs.Tests.{Mark, open-brace, close-brace, operand-not, other}
+use Rattle.machine.specs.Machine.{Punctuation, p-comma, p-colon, kind-of, Symbol, target-out, Output, silent, out, Move, stop, go, move, Answer, puts, run, Can}
+use Rattle.machine.specs.Depth.{Verdict, too-deep, verdict, room-after, within-room, limited-proceed, limited}
+use Rattle.machine.proofs.Moves.{Step, marks, gives, flags-true, flags-false, counts, block-opens, try-opens, has-target, skips, names, closes, catches, finishes-try, finishes-catch, begins, ends-at, lists-first, lists-next, Legal, halts, steps, legal}
+use Rattle.machine.proofs.Runs.{moves, stuck, blocked, moved, moved⁻}
+use Rattle.machine.proofs.Complete.{Good, step-good, complete}
 
 -- ---- braces and events: a move opens a block at a brace, and nowhere else
 
@@ -96,25 +96,7 @@ step-closes (ends-at n) = refl
 step-closes (lists-first {c = c} {t = t} h) = no-brace c t close-brace h
 step-closes lists-next = refl
 
--- ---- the limited machine
-
-pub data Verdict (S : Type 0) : Type 0 where
-  read : S → Verdict S
-  fault too-deep : ℕ → Verdict S
-
-abbrev pub verdict : {S : Type 0} → Answer S → Verdict S
-verdict (accepted s) = read s
-verdict (refused n) = fault n
-
--- the blocks that may still open after a move, if it may be made
-abbrev pub room-after : Output → ℕ → Option ℕ
-room-after silent d = some d
-room-after (out (acted n)) d = some d
-room-after (out (named t)) d = some d
-room-after (out (given t)) d = some d
-room-after (out (opened p)) zero = none
-room-after (out (opened p)) (suc d) = some d
-room-after (out closed) d = some (suc d)
+-- ---- the room left
 
 abbrev one-if : Bool → ℕ
 one-if b = cond b 1 0
@@ -154,20 +136,6 @@ opening-not-closing (out (opened p)) h = refl
 opening-not-closing (out closed) h = absurd (false≢true h)
 
 module _ {S : Type 0} (emit : Event → S → S) where
-  abbrev pub within-room : Option ℕ → (ℕ → Verdict S) → ℕ → Verdict S
-  within-room none k n = too-deep n
-  within-room (some d) k n = k d
-
-  abbrev pub limited-proceed : Move → ℕ → S → (List Symbol → ℕ → S → Verdict S) → ℕ → Verdict S
-  limited-proceed stop d s k n = fault n
-  limited-proceed (go α o) d s k n = within-room (room-after o d) (λ d′. k α d′ (puts emit o s)) n
-
-  -- `d` blocks may still open
-  abbrev pub limited : List Symbol → ℕ → S → List Lexeme → Verdict S
-  limited σ d s [] = verdict (finish emit (may-end σ) s)
-  limited [] d s (t ∷ ts) = fault (suc (length ts))
-  limited (a ∷ σ) d s (t ∷ ts) = limited-proceed (move a t) d s (λ α d′ s′. limited (α ++ σ) d′ s′ ts) (suc (length ts))
-
   -- a brace too many, in the machine's terms
   pub record Over (σ : List Symbol) (d : ℕ) (s : S) (ts : List Lexeme) (n : ℕ) : Type 0 where
     pub before : List Lexeme
@@ -260,16 +228,13 @@ module _ {S : Type 0} (emit : Event → S → S) where
         subst (λ (y : Answer S). Judged (a ∷ σ) d s (t ∷ ts) (verdict y)) (moves emit a t σ s ts e) (as-run (λ m h v. n m h (further (split v))))
     pass (over v n) = over (nearer v) (λ m h w. n m h (further (split w)))
 
-  stuck : (a : Symbol) (t : Lexeme) (σ : List Symbol) (s : S) (ts : List Lexeme) → move a t ≡ stop → run emit (a ∷ σ) s (t ∷ ts) ≡ refused (suc (length ts))
-  stuck a t σ s ts e = rw e
-
-  pub judge : (ts : List Lexeme) (σ : List Symbol) (d : ℕ) (s : S) → Good σ → Judged σ d s ts (limited σ d s ts)
+  pub judge : (ts : List Lexeme) (σ : List Symbol) (d : ℕ) (s : S) → Good σ → Judged σ d s ts (limited emit σ d s ts)
   judge [] σ d s g = as-run (λ m h o. omega (arith, ap length (o .cut), length-append (o .before) (o .brace ∷ o .after)))
   judge (t ∷ ts) (a ∷ σ) d s g = by-move (move a t) refl (legal a t) (λ α d′ s′. judge ts (α ++ σ) d′ s′)
     where
       by-room : (α : List Symbol) (o : Output) → move a t ≡ go α o → Step a t α o → (r : Option ℕ) → room-after o d ≡ r →
-          ((d′ : ℕ) → Judged (α ++ σ) d′ (puts emit o s) ts (limited (α ++ σ) d′ (puts emit o s) ts)) →
-          Judged (a ∷ σ) d s (t ∷ ts) (within-room r (λ d′. limited (α ++ σ) d′ (puts emit o s) ts) (suc (length ts)))
+          ((d′ : ℕ) → Judged (α ++ σ) d′ (puts emit o s) ts (limited emit (α ++ σ) d′ (puts emit o s) ts)) →
+          Judged (a ∷ σ) d s (t ∷ ts) (within-room emit r (λ d′. limited emit (α ++ σ) d′ (puts emit o s) ts) (suc (length ts)))
       by-room α o e q none r f =
           let p = no-room o d r in
           let c = complete emit (step-good σ q g) (puts emit o s) in
@@ -288,8 +253,8 @@ module _ {S : Type 0} (emit : Event → S → S) where
       by-room α o e q (some d′) r f = pass a t α o σ d d′ s ts e q r (f d′)
 
       by-move : (m : Move) → move a t ≡ m → Legal a t m →
-          ((α : List Symbol) (d′ : ℕ) (s′ : S) → Good (α ++ σ) → Judged (α ++ σ) d′ s′ ts (limited (α ++ σ) d′ s′ ts)) →
-          Judged (a ∷ σ) d s (t ∷ ts) (limited-proceed m d s (λ α d′ s′. limited (α ++ σ) d′ s′ ts) (suc (length ts)))
+          ((α : List Symbol) (d′ : ℕ) (s′ : S) → Good (α ++ σ) → Judged (α ++ σ) d′ s′ ts (limited emit (α ++ σ) d′ s′ ts)) →
+          Judged (a ∷ σ) d s (t ∷ ts) (limited-proceed emit m d s (λ α d′ s′. limited emit (α ++ σ) d′ s′ ts) (suc (length ts)))
       by-move stop e halts f =
-          subst (λ (y : Answer S). Judged (a ∷ σ) d s (t ∷ ts) (verdict y)) (stuck a t σ s ts e) (as-run (λ m h v. split-blocked e (split v)))
+          subst (λ (y : Answer S). Judged (a ∷ σ) d s (t ∷ ts) (verdict y)) (stuck emit a t σ s ts e) (as-run (λ m h v. split-blocked e (split v)))
       by-move (go α o) e (steps q) f = by-room α o e q (room-after o d) refl (λ d′. f α d′ (puts emit o s) (step-good σ q g))

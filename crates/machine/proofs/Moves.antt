@@ -11,12 +11,12 @@ use Rattle.tokens.specs.declared.TokenKind.{TokenKind}
 use Rattle.tokens.specs.declared.TokenKind.the-variants as K
 use Rattle.tokens.specs.Kinds.{isKind}
 use Rattle.numbers.specs.Integers.{integer}
-use Rattle.grammar.specs.Operands.{Lexeme, lexeme, Class, bool, onlyTrue, onlyFalse, u16, target, count, isOperand}
-use Rattle.grammar.specs.Grammar.{Part, try, catch, finally}
-use Rattle.grammar.proofs.Tests.{chosen, kind-is, acting, acting-acts}
-use Rattle.grammar.proofs.Plans.{Params, planOf, behindCount}
-use Rattle.grammar.proofs.Events.{acted, named, given, opened, closed}
-use Rattle.grammar.proofs.Machine.{Nesting, top, inner, Handlers, no-handlers, after-try, after-catch, State, item, ended, list₀, list₁, Punctuation, p-colon, kind-of, Symbol, mark, operand, flag, counted, opens, targets, level, Output, silent, out, target-out, Move, stop, go, further, start, action-word, move, on-count, on-finally, on-word, on-close, on-catch}
+use Rattle.lexemes.specs.Lexemes.{Lexeme, lexeme}
+use Rattle.lexemes.specs.Operands.{Class, bool, onlyTrue, onlyFalse, u16, target, count, isOperand, acting}
+use Rattle.lexemes.specs.Events.{Part, try, catch, finally, acted, named, given, opened, closed}
+use Rattle.lexemes.proofs.Tests.{chosen, kind-is, acting-acts}
+use Rattle.machine.specs.Plans.{Params, planOf, behindCount}
+use Rattle.machine.specs.Machine.{Nesting, top, inner, Handlers, no-handlers, after-try, after-catch, State, item, ended, list₀, list₁, Punctuation, p-colon, kind-of, Symbol, mark, operand, flag, counted, opens, targets, level, Output, silent, out, target-out, Move, stop, go, further, start, action-word, move, on-count, on-finally, on-word, on-close, on-catch}
 
 -- the states in which a newline ends an action, and the handlers that may follow it
 pub data Ends : State → Handlers → Type 0 where

@@ -1,16 +1,14 @@
--- The tokens of a list, and what an operand may be: document 01, 'Grammar', the words string, value, bool, u8, ..
+-- What an operand may be: document 01, 'Grammar', the words string, value, bool, u8, ..
 use mathlib.Core.Bool.{Bool, true, false, _&&_, _||_}
 use mathlib.Core.List.{List, [], _∷_}
 use mathlib.Core.Option.{Option, none, some}
-use Prim.Native.Nat.{ℕ, suc}
+use Prim.Native.Nat.{ℕ, zero, suc}
 use lib.Dec.{eqb}
 use lib.IntN.{pos, negsuc}
 use lib.ListN.{length}
-use Rattle.tokens.specs.declared.TokenKind.{TokenKind}
 use Rattle.tokens.specs.declared.TokenKind.the-variants as K
-use Rattle.tokens.specs.declared.Token.{Token}
 use Rattle.tokens.specs.Kinds.{isKind}
-use Rattle.tokens.specs.Tokens.{rawText, span}
+use Rattle.tokens.specs.Tokens.{span}
 use Rattle.numbers.specs.declared.Natural.{Natural}
 use Rattle.numbers.specs.declared.Natural.the-variants as N
 use Rattle.numbers.specs.declared.Integer.{Integer}
@@ -18,26 +16,17 @@ use Rattle.numbers.specs.declared.Integer.the-variants as I
 use Rattle.numbers.specs.Integers.{natural, integer}
 use Rattle.values.specs.declared.PushValue.{PushValue}
 use Rattle.values.specs.Values.{pushValue}
-
--- a token as the grammar sees it: its place in the list, its kind, its raw text
-pub data Lexeme : Type 0 where
-  lexeme : ℕ → TokenKind → List ℕ → Lexeme
-
-abbrev pub placeOf : Lexeme → ℕ
-placeOf (lexeme i k w) = i
-
-abbrev pub raw : Lexeme → List ℕ
-raw (lexeme i k w) = w
-
--- the tokens of a text, numbered from i on
-abbrev pub numbered : ℕ → List ℕ → List Token → List Lexeme
-numbered i text [] = []
-numbered i text (t ∷ ts) = lexeme i (t .kind) (rawText text t) ∷ numbered (suc i) text ts
+use Rattle.lexemes.specs.Lexemes.{Lexeme, lexeme}
 
 -- what an operand may be; `count n` is a count that acts as n
 pub data Class : Type 0 where
   string value bool onlyTrue onlyFalse u8 u16 identifier target : Class
   count : ℕ → Class
+
+-- count pairs of u8, string
+abbrev pub pairs : ℕ → List Class
+pairs zero = []
+pairs (suc k) = u8 ∷ string ∷ pairs k
 
 abbrev pub isSome : {A : Type 0} → Option A → Bool
 isSome none = false
@@ -69,3 +58,9 @@ isOperand u16 (lexeme i k w) = isKind k K.Integer && isParsed (natural 65535 w)
 isOperand identifier (lexeme i k w) = isKind k K.Identifier
 isOperand target (lexeme i k w) = isKind k K.String || isKind k (K.Register 0)
 isOperand (count n) (lexeme i k w) = isKind k K.Integer && actsAs n (integer w)
+
+-- the number that an i32 acts as, if it is one: `actsAs` as a function, for the machine alone
+abbrev pub acting : Integer → Option ℕ
+acting (I.Is (pos m)) = some m
+acting (I.Is (negsuc m)) = some 0
+acting I.Nothing = none

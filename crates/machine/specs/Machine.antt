@@ -1,5 +1,5 @@
 -- A pushdown machine for the grammar: a stack of symbols, the top one replaced at each token; no move without a token. It has
--- no output of its own: each move may have an event, and `run` hands the events to any `emit`. Assumes nothing.
+-- no output of its own: each move may have an event, and `run` hands the events to any `emit`.
 use mathlib.Core.Bool.{Bool, true, false, cond}
 use mathlib.Core.Option.{Option, some, none}
 use mathlib.Core.List.{List, [], _∷_, _++_}
@@ -11,11 +11,10 @@ use Rattle.tokens.specs.declared.TokenKind.{TokenKind}
 use Rattle.tokens.specs.declared.TokenKind.the-variants as K
 use Rattle.tokens.specs.Kinds.{isKind}
 use Rattle.numbers.specs.Integers.{integer}
-use Rattle.grammar.specs.Operands.{Lexeme, lexeme, Class, string, bool, onlyTrue, onlyFalse, u16, target, isOperand}
-use Rattle.grammar.specs.Grammar.{Part, body, try, catch, finally}
-use Rattle.grammar.proofs.Tests.{acting}
-use Rattle.grammar.proofs.Plans.{Params, Plan, plain, listing, frame, function, within, trying, planOf, behindCount}
-use Rattle.grammar.proofs.Events.{Event, acted, named, given, opened, closed}
+use Rattle.lexemes.specs.Lexemes.{Lexeme, lexeme}
+use Rattle.lexemes.specs.Operands.{Class, string, bool, onlyTrue, onlyFalse, u16, target, isOperand, acting}
+use Rattle.lexemes.specs.Events.{Part, body, try, catch, finally, Event, acted, named, given, opened, closed}
+use Rattle.machine.specs.Plans.{Params, Plan, plain, listing, frame, function, within, trying, planOf, behindCount}
 
 -- ---- symbols
 
@@ -199,3 +198,7 @@ module _ {S : Type 0} (emit : Event → S → S) where
   run σ s [] = finish (may-end σ) s
   run [] s (t ∷ ts) = refused (suc (length ts))
   run (a ∷ σ) s (t ∷ ts) = proceed (move a t) s (λ α s′. run (α ++ σ) s′ ts) (suc (length ts))
+
+  -- what a stack can still read: some list that it accepts begins with p
+  abbrev pub Can : List Symbol → S → List Lexeme → Type 0
+  Can σ s p = (q : List Lexeme) × Accepts (run σ s (p ++ q))

@@ -1,7 +1,7 @@
 -- Tests, and those of one token: what a test that holds says, and which tests shut each other out. Assumes nothing.
 use mathlib.Core.Path.{_≡_, refl, sym, ap, _∙_, subst}
 use mathlib.Core.Bool.{Bool, true, false, cond, not, _&&_, false≢true}
-use mathlib.Core.Option.{Option, some, none}
+use mathlib.Core.Option.{some}
 use mathlib.Core.List.{List}
 use Prim.Native.Nat.{ℕ}
 use lib.Dec.{eqb, leb}
@@ -14,7 +14,8 @@ use Rattle.tokens.specs.Kinds.{codeOf, isKind, kinds}
 use Rattle.numbers.specs.declared.Integer.{Integer}
 use Rattle.numbers.specs.declared.Integer.the-variants as I
 use Rattle.values.specs.Values.{pushValue}
-use Rattle.grammar.specs.Operands.{lexeme, Class, string, value, bool, onlyTrue, onlyFalse, u8, u16, identifier, target, count, isOperand, actsAs}
+use Rattle.lexemes.specs.Lexemes.{lexeme}
+use Rattle.lexemes.specs.Operands.{Class, string, value, bool, onlyTrue, onlyFalse, u8, u16, identifier, target, count, isOperand, actsAs, acting}
 
 pub both : (a b : Bool) → (a && b) ≡ true → (a ≡ true) × (b ≡ true)
 both true b h = (refl, h)
@@ -124,12 +125,6 @@ operand-not m {c = c} i k w g h = by (isKind k c) refl
     by false e = e
 
 -- ---- counts
-
--- the number that an i32 acts as
-abbrev pub acting : Integer → Option ℕ
-acting (I.Is (pos m)) = some m
-acting (I.Is (negsuc m)) = some 0
-acting I.Nothing = none
 
 pub acts-known : (n : ℕ) (z : Integer) → actsAs n z ≡ true → acting z ≡ some n
 acts-known n (I.Is (pos m)) h = ap some (eqb-true m n h)

@@ -1,0 +1,31 @@
+-- The tokens of a list, as the grammar sees them.
+use mathlib.Core.Bool.{Bool, cond}
+use mathlib.Core.List.{List, [], _∷_}
+use Prim.Native.Nat.{ℕ, suc}
+use Rattle.tokens.specs.declared.TokenKind.{TokenKind}
+use Rattle.tokens.specs.declared.Token.{Token}
+use Rattle.tokens.specs.Kinds.{isKind}
+use Rattle.tokens.specs.Tokens.{rawText}
+
+-- a token as the grammar sees it: its place in the list, its kind, its raw text
+pub data Lexeme : Type 0 where
+  lexeme : ℕ → TokenKind → List ℕ → Lexeme
+
+abbrev pub placeOf : Lexeme → ℕ
+placeOf (lexeme i k w) = i
+
+abbrev pub raw : Lexeme → List ℕ
+raw (lexeme i k w) = w
+
+-- the tokens of a text, numbered from i on
+abbrev pub numbered : ℕ → List ℕ → List Token → List Lexeme
+numbered i text [] = []
+numbered i text (t ∷ ts) = lexeme i (t .kind) (rawText text t) ∷ numbered (suc i) text ts
+
+abbrev pub isOf : TokenKind → Lexeme → Bool
+isOf k (lexeme i l w) = isKind l k
+
+-- how many tokens of a kind a list has
+abbrev pub countOf : TokenKind → List Lexeme → ℕ
+countOf k [] = 0
+countOf k (t ∷ ts) = cond (isOf k t) (suc (countOf k ts)) (countOf k ts)

@@ -1,0 +1,3 @@
+pub mod Lexemes
+pub mod Operands
+pub mod Events
