@@ -1,20 +1,20 @@
 -- `count_log`: what is counted and what is left are all. Assumes nothing.
-use mathlib.Core.Path.{_≡_, refl, sym, ap, _∙_}
-use mathlib.Core.List.{List, [], _∷_}
-use Prim.Native.Nat.{ℕ, suc, _+_, _/_, _≤_, _<_}
+use mathlib.Core.Path.{_≡_, sym, ap, _∙_}
+use mathlib.Core.List.{List, _∷_}
+use Prim.Native.Nat.{ℕ, suc, _+_, _≤_, _<_}
 use native.Mathlib.Numerals.{add-one}
 use native.Mathlib.Omega.{arith}
 use lib.ListN.{length, drop, getD, drop-of-length-le}
 use lib.Seq.{drop-cons}
 use borrow.Author.Tests.{eq-eqb, ne-eqb}
-use Rattle.counting.specs.declared.Count.{Count}
+use Rattle.events.specs.Log.{kindOf}
 use Rattle.counting.specs.Counting.{oneIf, countOf, Counted}
 
-pub one : (w k : ℕ) → w / 1048576 ≡ k → 1 ≡ oneIf k w
-one w k e = simp (eq-eqb (w / 1048576) k e)
+pub one : (w k : ℕ) {q : ℕ} → q ≡ kindOf w → q ≡ k → 1 ≡ oneIf k w
+one w k f e = simp (eq-eqb (kindOf w) k (sym f ∙ e))
 
-pub zero-if : (w k : ℕ) → (w / 1048576 ≡ k → ⊥) → 0 ≡ oneIf k w
-zero-if w k n = simp (ne-eqb (w / 1048576) k n)
+pub zero-if : (w k : ℕ) {q : ℕ} → q ≡ kindOf w → (q ≡ k → ⊥) → 0 ≡ oneIf k w
+zero-if w k f n = simp (ne-eqb (kindOf w) k (λ e. n (f ∙ e)))
 
 pub record Done (log : List ℕ) (a n o l i : ℕ) : Type 0 where
   pub inside : i ≤ length log

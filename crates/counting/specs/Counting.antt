@@ -2,12 +2,13 @@
 use mathlib.Core.Path.{_≡_}
 use mathlib.Core.Bool.{cond}
 use mathlib.Core.List.{List, [], _∷_}
-use Prim.Native.Nat.{ℕ, suc, _+_, _/_}
+use Prim.Native.Nat.{ℕ, suc, _+_}
 use lib.Dec.{eqb}
+use Rattle.events.specs.Log.{kindOf}
 use Rattle.counting.specs.declared.Count.{Count}
 
 abbrev pub oneIf : ℕ → ℕ → ℕ
-oneIf k w = cond (eqb (w / 1048576) k) 1 0
+oneIf k w = cond (eqb (kindOf w) k) 1 0
 
 abbrev pub countOf : ℕ → List ℕ → ℕ
 countOf k [] = 0

@@ -1,4 +1,5 @@
 // How many entries of each kind a log has: labels written again are counted again.
+use events::kind_of;
 ghost use mathlib.Core.Path.{_≡_};
 ghost use Prim.Native.Nat.{_≤_};
 ghost use Rattle.counting.specs.Counting.{oneIf, Counted};
@@ -15,7 +16,7 @@ fn one_if(word: u64, kind: u64) -> usize
     ensures { λ r. ⌜ r ≡ oneIf kind word ⌝ }
     ensures { λ r. ⌜ r ≤ 1 ⌝ }
 {
-    if word / 1048576 == kind { 1 } else { 0 }
+    if kind_of(word) == kind { 1 } else { 0 }
 }
 
 // The top level is one more than the blocks that open.

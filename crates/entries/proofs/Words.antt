@@ -20,6 +20,7 @@ use Rattle.entries.specs.declared.Net.the-variants as N
 use Rattle.entries.specs.declared.Level.{Level}
 use Rattle.entries.specs.declared.Label.{Label}
 use Rattle.entries.specs.Entries.{actionWord, actionOf, operandWord, operandOf, blockNumber, partOf, blockOf, netNumber, netOf, levelWord, levelOf, labelWord, labelOf}
+use Rattle.entries.specs.Levels.{Small, Small17, SmallNet}
 
 -- ---- blocks
 
@@ -86,7 +87,12 @@ InRange (N.Height (pos n)) = n ≤ 65536
 InRange (N.Height (negsuc n)) = n < 196608
 InRange (N.Undetermined a) = a < 65536
 
-pub net-back : (t : Net) → InRange t → netOf (netNumber t) ≡ t
+pub in-range : (t : Net) → InRange t → SmallNet t
+in-range (N.Height (pos n)) h = omega arith
+in-range (N.Height (negsuc n)) h = omega arith
+in-range (N.Undetermined a) h = omega arith
+
+pub net-back : (t : Net) → SmallNet t → netOf (netNumber t) ≡ t
 unfolding netOf
 net-back (N.Height (pos n)) h =
     simp (lt-ltb (196608 + n) 524288 (omega arith), le-ltb (196608 + n) 196608 (omega arith)) (ap (λ (k : ℕ). N.Height (pos k)) (omega arith))
@@ -94,9 +100,14 @@ net-back (N.Height (negsuc n)) h =
     simp (lt-ltb (196607 - n) 524288 (omega arith), lt-ltb (196607 - n) 196608 (omega arith)) (ap (λ (k : ℕ). N.Height (negsuc k)) (omega arith))
 net-back (N.Undetermined a) h = simp (le-ltb (524288 + a) 524288 (omega arith)) (ap N.Undetermined (omega arith))
 
+pub net-small : (t : Net) → SmallNet t → Small (netNumber t)
+net-small (N.Height (pos n)) h = omega arith
+net-small (N.Height (negsuc n)) h = omega arith
+net-small (N.Undetermined a) h = omega arith
+
 -- ---- the words
 
-pub action-back : (a : Action) → a .level < 131072 → a .first < 131072 → a .count < 131072 → actionOf (actionWord a) ≡ a
+pub action-back : (a : Action) → Small17 (a .level) → Small17 (a .first) → Small17 (a .count) → actionOf (actionWord a) ≡ a
 action-back a h f k =
     let w = actionWord a in
     let n : w / 2251799813685248 ≡ numberOf (a .name) = omega arith in
@@ -112,12 +123,7 @@ operand-back o h =
     let t : w % 1099511627776 ≡ o .token = omega arith in
     simp (a, t)
 
-net-small : (t : Net) → InRange t → netNumber t < 1048576
-net-small (N.Height (pos n)) h = omega arith
-net-small (N.Height (negsuc n)) h = omega arith
-net-small (N.Undetermined a) h = omega arith
-
-pub level-back : (l : Level) → l .actions < 1048576 → InRange (l .net) → levelOf (levelWord l) ≡ l
+pub level-back : (l : Level) → Small (l .actions) → SmallNet (l .net) → levelOf (levelWord l) ≡ l
 level-back l h r =
     let s = net-small (l .net) r in
     let w = levelWord l in
@@ -129,7 +135,7 @@ level-back l h r =
 low : (q r : ℕ) → r < 1048576 → ((q * 1048576 + r) / 1048576 ≡ q) × ((q * 1048576 + r) % 1048576 ≡ r)
 low q r h = (omega arith, omega arith)
 
-pub label-back : (l : Label) → l .token < 1048576 → l .position < 1048576 → labelOf (labelWord l) ≡ l
+pub label-back : (l : Label) → Small (l .token) → Small (l .position) → labelOf (labelWord l) ≡ l
 label-back l h p =
     let q = l .level * 1048576 + l .position in
     let e : labelWord l ≡ q * 1048576 + l .token = omega arith in

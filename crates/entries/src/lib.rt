@@ -1,14 +1,16 @@
 // The entries of the tables that reading fills: one number for each, and the structs made of them.
 use actions::action_at;
+use actions::action_number;
 use names::ActionName;
 use tokens::Token;
 use tokens::token_of;
 ghost use mathlib.Core.Path.{_≡_};
-ghost use Prim.Native.Nat.{_<_, _≤_};
+ghost use Prim.Native.Nat.{_-_, _≤_};
 ghost use Rattle.tokens.specs.Tokens.{tokenOf};
 ghost use lib.ListN.{getD, set};
-ghost use Rattle.entries.specs.Entries.{actionOf, operandOf, blockOf, netOf, levelOf, labelOf};
-ghost use Rattle.entries.specs.Fields.{actionFields, actionLevel, operandFields, levelFields, heldIn, labelFields};
+ghost use Rattle.entries.specs.declared.Block.the-variants as B;
+ghost use Rattle.entries.specs.Entries.{actionWord, actionOf, operandWord, operandOf, blockNumber, partOf, blockOf, netNumber, netOf, levelWord, levelOf, labelWord, labelOf};
+ghost use Rattle.entries.specs.Levels.{fresh, withAction, ownerOf, levelAt, Small, NetFits, SmallLevel, ActionFits, OperandFits, LabelFits};
 
 // Its operands are `count` entries of the operand table, from `first` on.
 pub struct Action {
@@ -161,7 +163,7 @@ pub fn label_in(table: &[u64], at: usize) -> Label
     label_of(word_at(table, at))
 }
 
-// ---- entries written, field by field: past the table's end nothing is
+// ---- entries written; past the table's end nothing is
 
 fn put(table: &mut [u64], at: usize, word: u64)
     ensures { λ _. ⌜ now (table .exit) ≡ set (now (table .entry)) at word ⌝ }
@@ -171,61 +173,125 @@ fn put(table: &mut [u64], at: usize, word: u64)
     }
 }
 
-pub fn put_action(table: &mut [u64], at: usize, number: u64, level: usize, first: usize, count: usize)
-    requires { ⌜ (number < 1048576) × ((level < 131072) × ((first < 8589934592) × (count < 8589934592))) ⌝ }
-    ensures { λ _. ⌜ now (table .exit) ≡ set (now (table .entry)) at (actionFields number level first count) ⌝ }
+pub fn put_action(table: &mut [u64], at: usize, action: Action)
+    requires { ⌜ ActionFits action ⌝ }
+    ensures { λ _. ⌜ now (table .exit) ≡ set (now (table .entry)) at (actionWord action) ⌝ }
 {
-    let word = number % 4096 * 2251799813685248
-        + level as u64 * 17179869184
-        + first as u64 * 131072
-        + count as u64;
-    put(table, at, word);
+    let name = action.name;
+    let number = action_number(name) as u64;
+    let level = action.level as u64;
+    let first = action.first as u64;
+    let count = action.count as u64;
+    put(
+        table,
+        at,
+        number * 2251799813685248 + level * 17179869184 + first * 131072 + count,
+    );
 }
 
-// The level of the action at a place.
-pub fn action_level(table: &[u64], at: usize) -> usize
-    ensures { λ r. ⌜ r ≡ actionLevel (getD (now (table .entry)) at 0) ⌝ }
-    ensures { λ r. ⌜ r < 131072 ⌝ }
+pub fn put_operand(table: &mut [u64], at: usize, operand: Operand)
+    requires { ⌜ OperandFits operand ⌝ }
+    ensures { λ _. ⌜ now (table .exit) ≡ set (now (table .entry)) at (operandWord operand) ⌝ }
 {
-    (word_at(table, at) / 17179869184 % 131072) as usize
+    put(
+        table,
+        at,
+        operand.action as u64 * 1099511627776 + operand.token as u64,
+    );
 }
 
-pub fn put_operand(table: &mut [u64], at: usize, action: usize, token: u64)
-    requires { ⌜ (action ≤ 65536) × (token < 1048576) ⌝ }
-    ensures { λ _. ⌜ now (table .exit) ≡ set (now (table .entry)) at (operandFields action token) ⌝ }
+pub fn label_word(label: Label) -> u64
+    requires { ⌜ LabelFits label ⌝ }
+    ensures { λ r. ⌜ r ≡ labelWord label ⌝ }
 {
-    put(table, at, action as u64 * 1099511627776 + token);
+    label.level as u64 * 1099511627776 + label.position as u64 * 1048576 + label.token as u64
 }
 
-// The fields of a level as numbers: its block's, how many actions it has, its net's.
-pub struct Held {
-    pub block: u64,
-    pub actions: u64,
-    pub net: u64,
+pub fn put_label(table: &mut [u64], at: usize, label: Label)
+    requires { ⌜ LabelFits label ⌝ }
+    ensures { λ _. ⌜ now (table .exit) ≡ set (now (table .entry)) at (labelWord label) ⌝ }
+{
+    put(table, at, label_word(label));
 }
 
-pub fn held_in(table: &[u64], at: usize) -> Held
-    ensures { λ r. ⌜ r ≡ heldIn (getD (now (table .entry)) at 0) ⌝ }
-    ensures { λ r. ⌜ (r .block < 1048576) × ((r .actions < 1048576) × (r .net < 1048576)) ⌝ }
+// ---- levels, which stand in their table from their brace on; 196,608 is the number of the height 0
+
+pub fn open_top(table: &mut [u64])
+    ensures { λ _. ⌜ now (table .exit) ≡ set (now (table .entry)) 0 (levelWord (fresh B.Top)) ⌝ }
 {
-    let word = word_at(table, at);
-    Held {
-        block: word / 1099511627776 % 1048576,
-        actions: word / 1048576 % 1048576,
-        net: word % 1048576,
+    put(table, 0, 196608);
+}
+
+// The number of an action's body, try, catch or finally block.
+fn block_number(part: u64, action: usize) -> u64
+    requires { ⌜ Small action ⌝ }
+    ensures { λ r. ⌜ (r ≡ blockNumber (partOf part action)) × (r ≤ 4194304) ⌝ }
+{
+    let before = action as u64 * 4;
+    match part {
+        0 => before + 1,
+        1 => before + 2,
+        2 => before + 3,
+        _ => before + 4,
     }
 }
 
-pub fn put_level(table: &mut [u64], at: usize, block: u64, actions: u64, net: u64)
-    requires { ⌜ (block < 4194304) × ((actions ≤ 1048576) × (net < 1099511627776)) ⌝ }
-    ensures { λ _. ⌜ now (table .exit) ≡ set (now (table .entry)) at (levelFields block actions net) ⌝ }
+// A level at its opening brace: no action yet, height 0.
+pub fn open_level(table: &mut [u64], at: usize, part: u64, action: usize)
+    requires { ⌜ Small action ⌝ }
+    ensures { λ _. ⌜ now (table .exit) ≡ set (now (table .entry)) at (levelWord (fresh (partOf part action))) ⌝ }
 {
-    put(table, at, block * 1099511627776 + actions * 1048576 + net);
+    let block = block_number(part, action);
+    put(table, at, block * 1099511627776 + 196608);
 }
 
-pub fn put_label(table: &mut [u64], at: usize, level: u64, token: u64, position: u64)
-    requires { ⌜ (level < 1048576) × ((token < 1048576) × (position < 1048576)) ⌝ }
-    ensures { λ _. ⌜ now (table .exit) ≡ set (now (table .entry)) at (labelFields level token position) ⌝ }
+// The level at a place of a table that is being written; past its end that of the word 0.
+pub fn level_at(table: &[u64], at: usize) -> Level
+    ensures { λ r. ⌜ r ≡ levelAt (now (table .entry)) at ⌝ }
+    ensures { λ r. ⌜ SmallLevel r ⌝ }
 {
-    put(table, at, level * 1099511627776 + position * 1048576 + token);
+    level_of(word_at(table, at) % 1152921504606846976)
+}
+
+// The action that owns a block; the top level has none, and counts as owned by 0.
+pub fn owner_of(block: Block) -> usize
+    ensures { λ r. ⌜ r ≡ ownerOf block ⌝ }
+{
+    match block {
+        Block::Top => 0,
+        Block::Body(a) => a,
+        Block::Try(a) => a,
+        Block::Catch(a) => a,
+        Block::Finally(a) => a,
+    }
+}
+
+// The number of a height, which is given 393,216 higher so that it has no sign: how far it lies above the lowest, -196,608, or 0.
+fn above_lowest(height: u64) -> u64
+    ensures { λ r. ⌜ r ≡ height - 196608 ⌝ }
+{
+    if height < 196608 {
+        return 0;
+    }
+    height - 196608
+}
+
+fn net_number(net: Net) -> u64
+    requires { ⌜ NetFits net ⌝ }
+    ensures { λ r. ⌜ (r ≡ netNumber net) × Small r ⌝ }
+{
+    match net {
+        Net::Height(h) => above_lowest((h + 393216) as u64),
+        Net::Undetermined(a) => 524288 + a as u64,
+    }
+}
+
+// One action more in a level, and the net behind it.
+pub fn add_action(table: &mut [u64], at: usize, net: Net)
+    requires { ⌜ NetFits net ⌝ }
+    ensures { λ _. ⌜ now (table .exit) ≡ set (now (table .entry)) at (levelWord (withAction net (levelAt (now (table .entry)) at))) ⌝ }
+{
+    let kept = word_at(table, at) % 1152921504606846976 / 1048576;
+    let number = net_number(net);
+    put(table, at, (kept + 1) * 1048576 + number);
 }

@@ -1,3 +1,4 @@
+pub mod Arranging
 pub mod Turns
 pub mod Names
 pub mod Over

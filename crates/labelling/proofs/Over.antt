@@ -1,39 +1,37 @@
 -- `put_over` and `put_labels`: the labels of a tree, at the front of the lent table. Assumes nothing.
 use mathlib.Core.Path.{_≡_, refl, sym, ap, subst, _∙_}
 use mathlib.Core.Bool.{Bool, true, false, cond}
-use mathlib.Core.List.{List, [], _∷_, _++_, map}
-use Prim.Native.Nat.{ℕ, zero, suc, _+_, _/_, _≤_, _<_}
+use mathlib.Core.List.{List, [], _∷_, _++_}
+use Prim.Native.Nat.{ℕ, zero, suc, _+_, _≤_, _<_}
 use native.Mathlib.Omega.{arith}
 use native.Mathlib.Decide.{ℕ-discrete}
 use lib.ListN.{length, take, drop, length-append, length-map, length-replicate, replicate}
 use lib.Dec.{eqb}
 use lib.Seq.{take-at}
+use Rattle.events.specs.Log.{kindOf}
 use Rattle.counting.proofs.Counts.{zero-if}
-use Rattle.counting.specs.Counting.{oneIf, countOf, Counted}
+use Rattle.counting.specs.Counting.{oneIf, countOf}
 use Rattle.grammar.specs.Grammar.{Items}
-use Rattle.grammar.specs.Reading.{allActions, openedOf, opened, labelsFrom, readingOf}
-use Rattle.grammar.proofs.Unique.{events}
+use Rattle.grammar.specs.Reading.{allActions, opened, readingOf}
 use Rattle.grouping.specs.Grouping.{Below, having, grouped}
 use Rattle.labels.specs.Labels.{merged, Merged}
 use Rattle.parser.specs.Parsed.{logOf}
 use Rattle.reading.specs.Trees.{AllOf, IsLow, namedOf}
 use Rattle.reading.specs.Tables.{front, labelEntryWord, labelWords}
-use Rattle.reading.specs.Told.{Known, LabelsAsked}
+use Rattle.reading.specs.Told.{Known}
 use Rattle.reading.proofs.Places.{weaker-of}
-use Rattle.reading.proofs.Runs.{runs}
-use Rattle.reading.proofs.Groups.{labelRun}
 use Rattle.reading.proofs.Grouped.{labels-grouped, labels-below}
-use Rattle.reading.proofs.Labels.{Found, is-found, labels-merged, all-sound}
+use Rattle.reading.proofs.Labels.{is-found, labels-merged, all-sound}
 use Rattle.reading.proofs.Sets.{at-front}
 use Rattle.reading.proofs.Front.{few-of, levels-many}
 use Rattle.reading.proofs.Tallies.{tallied}
 use Rattle.labelling.specs.declared.Put.the-variants as P
 use Rattle.labelling.specs.Naming.{Collects, steps, start}
-use Rattle.labelling.specs.Putting.{Asked, Roomy, PutOf}
+use Rattle.labelling.specs.Putting.{Asked, Roomy, LabelsAsked, PutOf}
 use Rattle.labelling.proofs.Names.{all-named}
 
 one-few : (k w : ℕ) → oneIf k w ≤ 1
-one-few k w = either (eqb (w / 1048576) k)
+one-few k w = either (eqb (kindOf w) k)
   where
     either : (b : Bool) → cond b 1 0 ≤ 1
     either true = omega arith
@@ -45,9 +43,9 @@ count-few k (w ∷ l) = omega (arith, one-few k w, count-few k l)
 
 one-of-both : (w : ℕ) → oneIf 1 w + oneIf 3 w ≤ 1
 one-of-both w =
-    elim (ℕ-discrete (w / 1048576) 1) [
-      | yes e ↦ omega (arith, one-few 1 w, zero-if w 3 (λ d. omega arith))
-      | no e ↦ omega (arith, one-few 3 w, zero-if w 1 e)
+    elim (ℕ-discrete (kindOf w) 1) [
+      | yes e ↦ omega (arith, one-few 1 w, zero-if w 3 refl (λ d. omega arith))
+      | no e ↦ omega (arith, one-few 3 w, zero-if w 1 refl e)
     ]
 
 both-few : (l : List ℕ) → countOf 1 l + countOf 3 l ≤ length l
@@ -104,6 +102,12 @@ module _ (text s log : List ℕ) (n levels : ℕ) (asked : Asked text s log n le
         ∙ at-front u N (omega (arith, names-is)))
         ∙ take-at u (drop (length u) N) n (sym names-is)
 
+    pub named-half : n ≤ 32768
+    named-half = omega (arith, names-is, known .named-half, known .few)
+
+    pub levels-half : levels ≤ 32769
+    levels-half = omega (arith, levels-is, known .opened-half, known .few)
+
     below : Below levels (namedOf 0 1 0 x)
     below = subst (λ k. Below k (namedOf 0 1 0 x)) (sym levels-is) (labels-below x low (omega (arith, few-actions)))
 
@@ -157,8 +161,8 @@ module _ (text s log : List ℕ) (n levels : ℕ) (asked : Asked text s log n le
         keys = subst (Below levels) (sym (fronted (asked .tree) (asked .of) (asked .log-of) W N W′ N′ (r .for-levels) (r .for-named) c)) (below (asked .tree) (asked .of) (asked .log-of));
       }
 
--- scratch of k places more than two
-pub roomy : (n levels k : ℕ) → n + levels < k → Roomy n levels (replicate k 0) (replicate k 0) (replicate k 0)
-roomy n levels k h =
+-- scratch of k places
+pub roomy : (n levels k : ℕ) → n ≤ k → levels < k → Roomy n levels (replicate k 0) (replicate k 0) (replicate k 0)
+roomy n levels k h g =
     let e = length-replicate {A = ℕ} k 0 in
     record { for-named = omega (arith, e); for-sorted = omega (arith, e); for-levels = omega (arith, e); for-index = omega (arith, e) }

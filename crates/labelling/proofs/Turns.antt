@@ -1,52 +1,50 @@
--- What each call that names an event leaves. Assumes nothing.
-use mathlib.Core.Path.{_≡_, refl, sym, ap, subst, _∙_}
-use mathlib.Core.List.{List, [], _∷_}
-use Prim.Native.Nat.{ℕ, zero, suc, _+_, _*_, _/_, _%_, _≤_, _<_}
+-- What each event leaves, and the loop over them. Assumes nothing.
+use mathlib.Core.Path.{_≡_, sym, ap, _∙_}
+use mathlib.Core.List.{List, _∷_}
+use Prim.Native.Nat.{ℕ, _+_, _≤_, _<_}
 use native.Mathlib.Numerals.{add-one}
 use native.Mathlib.Omega.{arith}
+use lib.IntN.{pos}
 use lib.ListN.{length, drop, getD, set, drop-of-length-le}
 use lib.Seq.{drop-cons}
-use Rattle.entries.specs.Fields.{labelFields}
+use Rattle.events.specs.declared.Event.{Event}
+use Rattle.events.specs.Log.{eventOf}
+use Rattle.entries.specs.declared.Net.the-variants as N
+use Rattle.entries.specs.declared.Level.{Level}
+use Rattle.entries.specs.Entries.{partOf, levelWord, labelWord}
+use Rattle.entries.specs.Levels.{fresh, withAction, ownerOf, levelAt, Small}
 use Rattle.labelling.specs.declared.Namer.{Namer}
-use Rattle.labelling.specs.Naming.{Naming, naming, acted, name, opened, closed, by, step, steps, start, Few}
+use Rattle.labelling.specs.Naming.{Naming, naming, acted, name, opened, closed, by, step, steps, Few}
 
-module _ (ws ns : List ℕ) (n : Namer) (h : ℕ) (e : h ≡ getD ws (n .level) 0) where
-  pub acted-is : (ws′ : List ℕ) → ws′ ≡ set ws (n .level) (h % 1099511627776 + 1) → naming ws′ ns n ≡ acted (naming ws ns n)
-  unfolding naming acted
-  acted-is ws′ f = λ j. record { own = (f ∙ ap (λ q. set ws (n .level) (q % 1099511627776 + 1)) e) j; named = ns; at = n }
-
-  pub name-is : (t : ℕ) (ns′ : List ℕ) → ns′ ≡ set ns (n .labels) (labelFields (n .level) t (h % 1048576))
+module _ (ws ns : List ℕ) (n : Namer) (h : Level) (e : h ≡ levelAt ws (n .level)) where
+  pub name-is : (t : ℕ) (ns′ : List ℕ) → ns′ ≡ set ns (n .labels) (labelWord (record { level = n .level; token = t; position = h .actions }))
       → naming ws ns′ (record { level = n .level; levels = n .levels; labels = n .labels + 1 }) ≡ name t (naming ws ns n)
   unfolding naming name
   name-is t ns′ f =
       λ j. record {
         own = ws;
-        named = (f ∙ ap (λ q. set ns (n .labels) (labelFields (n .level) t (q % 1048576))) e) j;
+        named = (f ∙ ap (λ (q : Level). set ns (n .labels) (labelWord (record { level = n .level; token = t; position = q .actions }))) e) j;
         at = record { level = n .level; levels = n .levels; labels = n .labels + 1 };
       }
 
-  pub closed-is : naming ws ns (record { level = h / 1048576 % 1048576; levels = n .levels; labels = n .labels }) ≡ closed (naming ws ns n)
+  pub closed-is : (o : ℕ) → o ≡ ownerOf (h .block) → naming ws ns (record { level = o; levels = n .levels; labels = n .labels }) ≡ closed (naming ws ns n)
   unfolding naming closed
-  closed-is = λ j. record { own = ws; named = ns; at = record { level = e j / 1048576 % 1048576; levels = n .levels; labels = n .labels } }
+  closed-is o f =
+      let k = f ∙ ap (λ (q : Level). ownerOf (q .block)) e in
+      λ j. record { own = ws; named = ns; at = record { level = k j; levels = n .levels; labels = n .labels } }
 
-pub opened-is : (ws ns : List ℕ) (n : Namer) (ws′ : List ℕ) → ws′ ≡ set ws (n .levels) (n .level * 1048576)
+pub acted-is : (ws ns : List ℕ) (n : Namer) (ws′ : List ℕ) → ws′ ≡ set ws (n .level) (levelWord (withAction (N.Height (pos 0)) (levelAt ws (n .level))))
+    → naming ws′ ns n ≡ acted (naming ws ns n)
+unfolding naming acted
+acted-is ws ns n ws′ f = λ j. record { own = f j; named = ns; at = n }
+
+pub opened-is : (ws ns : List ℕ) (n : Namer) (ws′ : List ℕ) → ws′ ≡ set ws (n .levels) (levelWord (fresh (partOf 0 (n .level))))
     → naming ws′ ns (record { level = n .levels; levels = n .levels + 1; labels = n .labels }) ≡ opened (naming ws ns n)
 unfolding naming opened
 opened-is ws ns n ws′ f = λ j. record { own = f j; named = ns; at = record { level = n .levels; levels = n .levels + 1; labels = n .labels } }
 
-pub arm : (w k : ℕ) (T U : Naming) → w / 1048576 ≡ k → U ≡ by k (w % 1048576) T → U ≡ step w T
-unfolding step
-arm w k T U e h = h ∙ ap (λ q. by q (w % 1048576) T) (sym e)
-
-others : (k n : ℕ) (T : Naming) → 4 ≤ k → closed T ≡ by k n T
-others zero n T h = absurd (omega arith)
-others (suc zero) n T h = absurd (omega arith)
-others (suc (suc zero)) n T h = absurd (omega arith)
-others (suc (suc (suc zero))) n T h = absurd (omega arith)
-others (suc (suc (suc (suc k)))) n T h = refl
-
-pub rest-arm : (w : ℕ) (T U : Naming) → 4 ≤ w / 1048576 → U ≡ closed T → U ≡ step w T
-rest-arm w T U h e = arm w (w / 1048576) T U refl (e ∙ others (w / 1048576) (w % 1048576) T h)
+pub arm : (v u : Event) (T U : Naming) → v ≡ u → U ≡ by u T → U ≡ by v T
+arm v u T U e h = h ∙ ap (λ q. by q T) (sym e)
 
 -- ---- the loop
 
@@ -61,15 +59,16 @@ pub wider : (i : ℕ) (n : Namer) → i ≤ 65536 → Few i n → Few 65536 n
 wider i n h f = record { level = f .level; levels = omega (arith, f .levels); labels = omega (arith, f .labels) }
 
 pub again : (log ws₀ ns₀ : List ℕ) (n₀ : Namer) (ws ns : List ℕ) (n : Namer) (i : ℕ) → Done log ws₀ ns₀ n₀ ws ns n i → i < length log
-    → (ws′ ns′ : List ℕ) (r : Namer) → naming ws′ ns′ r ≡ step (getD log i 0) (naming ws ns n)
-    → (r .levels ≤ n .levels + 1) × ((r .labels ≤ n .labels + 1) × (r .level < 1048576))
+    → (v : Event) → v ≡ eventOf (getD log i 0) → (ws′ ns′ : List ℕ) (r : Namer) → naming ws′ ns′ r ≡ by v (naming ws ns n)
+    → (r .levels ≤ n .levels + 1) × ((r .labels ≤ n .labels + 1) × Small (r .level))
     → length ws′ ≡ length ws → length ns′ ≡ length ns → Done log ws₀ ns₀ n₀ ws′ ns′ r (i + 1)
-again log ws₀ ns₀ n₀ ws ns n i d h ws′ ns′ r e m a b =
+unfolding step
+again log ws₀ ns₀ n₀ ws ns n i d h v k ws′ ns′ r e m a b =
     record {
       inside = omega arith;
       few = record { level = m .1 .1; levels = omega (arith, m .0, d .few .levels); labels = omega (arith, m .1 .0, d .few .labels) };
       told =
-          ap (steps (drop (i + 1) log)) e
+          ap (steps (drop (i + 1) log)) (e ∙ ap (λ q. by q (naming ws ns n)) k)
           ∙ sym (ap (λ l. steps l (naming ws ns n)) (drop-cons log i 0 h ∙ ap (λ k. getD log i 0 ∷ drop k log) (sym (add-one i))))
           ∙ d .told;
       own-long = a ∙ d .own-long;

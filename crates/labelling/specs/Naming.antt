@@ -1,12 +1,20 @@
--- What each event of a log adds to its labels, in the order of the text.
+-- What each event of a log adds to its labels, in the order of the text. No public contract cites it.
 use mathlib.Core.Path.{_≡_}
 use mathlib.Core.List.{List, [], _∷_}
-use Prim.Native.Nat.{ℕ, zero, suc, _+_, _*_, _/_, _%_, _≤_, _<_}
-use lib.ListN.{getD, set}
-use Rattle.entries.specs.Fields.{labelFields}
+use Prim.Native.Nat.{ℕ, _+_, _≤_}
+use lib.IntN.{pos}
+use lib.ListN.{set}
+use Rattle.events.specs.declared.Event.{Event}
+use Rattle.events.specs.declared.Event.the-variants as E
+use Rattle.events.specs.Log.{eventOf}
+use Rattle.entries.specs.declared.Block.the-variants as B
+use Rattle.entries.specs.declared.Net.the-variants as N
+use Rattle.entries.specs.declared.Level.{Level}
+use Rattle.entries.specs.Entries.{partOf, levelWord, labelWord}
+use Rattle.entries.specs.Levels.{fresh, withAction, ownerOf, levelAt, Small}
 use Rattle.labelling.specs.declared.Namer.{Namer}
 
--- of each level the level around it and how many actions it has; the labels; and what is open
+-- a table of levels in which a level is the body of the level around it, the labels, and what is open
 pub record Naming : Type 0 where
   pub own : List ℕ
   pub named : List ℕ
@@ -15,53 +23,59 @@ pub record Naming : Type 0 where
 unfoldable pub naming : List ℕ → List ℕ → Namer → Naming
 naming ws ns n = record { own = ws; named = ns; at = n }
 
-abbrev pub here : Naming → ℕ
-here T = getD (T .own) (T .at .level) 0
+-- the open level
+abbrev pub here : Naming → Level
+here T = levelAt (T .own) (T .at .level)
 
 unfoldable pub acted : Naming → Naming
-acted T = record { own = set (T .own) (T .at .level) (here T % 1099511627776 + 1); named = T .named; at = T .at }
+acted T = record { own = set (T .own) (T .at .level) (levelWord (withAction (N.Height (pos 0)) (here T))); named = T .named; at = T .at }
 
+-- a label's position is how many actions its level has so far
 unfoldable pub name : ℕ → Naming → Naming
 name t T =
     record {
       own = T .own;
-      named = set (T .named) (T .at .labels) (labelFields (T .at .level) t (here T % 1048576));
+      named = set (T .named) (T .at .labels) (labelWord (record { level = T .at .level; token = t; position = here T .actions }));
       at = record { level = T .at .level; levels = T .at .levels; labels = T .at .labels + 1 };
     }
 
 unfoldable pub opened : Naming → Naming
 opened T =
     record {
-      own = set (T .own) (T .at .levels) (T .at .level * 1048576);
+      own = set (T .own) (T .at .levels) (levelWord (fresh (partOf 0 (T .at .level))));
       named = T .named;
       at = record { level = T .at .levels; levels = T .at .levels + 1; labels = T .at .labels };
     }
 
 unfoldable pub closed : Naming → Naming
-closed T = record { own = T .own; named = T .named; at = record { level = here T / 1048576 % 1048576; levels = T .at .levels; labels = T .at .labels } }
+closed T =
+    record { own = T .own; named = T .named; at = record { level = ownerOf (here T .block); levels = T .at .levels; labels = T .at .labels } }
 
-abbrev pub by : ℕ → ℕ → Naming → Naming
-by zero n T = acted T
-by (suc zero) n T = name n T
-by (suc (suc zero)) n T = T
-by (suc (suc (suc zero))) n T = opened T
-by (suc (suc (suc (suc k)))) n T = closed T
+abbrev pub by : Event → Naming → Naming
+by (E.Action n) T = acted T
+by (E.Label t) T = name t T
+by (E.Operand t) T = T
+by (E.Opened p) T = opened T
+by E.Closed T = closed T
 
 unfoldable pub step : ℕ → Naming → Naming
-step w T = by (w / 1048576) (w % 1048576) T
+step w T = by (eventOf w) T
 
 abbrev pub steps : List ℕ → Naming → Naming
 steps [] T = T
 steps (w ∷ l) T = steps l (step w T)
 
+-- before the first event: the top level is open
 abbrev pub start : List ℕ → List ℕ → Naming
-start ws ns = naming (set ws 0 0) ns (record { level = 0; levels = 1; labels = 0 })
+start ws ns = naming (set ws 0 (levelWord (fresh B.Top))) ns (record { level = 0; levels = 1; labels = 0 })
 
+-- what `collect` leaves
 pub record Collects (log ws ns ws′ ns′ : List ℕ) : Type 0 where
   pub at : Namer
   pub all : naming ws′ ns′ at ≡ steps log (start ws ns)
 
+-- where it can stand behind i events
 pub record Few (i : ℕ) (n : Namer) : Type 0 where
-  pub level : n .level < 1048576
+  pub level : Small (n .level)
   pub levels : n .levels ≤ i + 1
   pub labels : n .labels ≤ i

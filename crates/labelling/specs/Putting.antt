@@ -1,8 +1,9 @@
 -- What handing labels to a lent table asks and leaves.
 use mathlib.Core.Path.{_≡_}
 use mathlib.Core.List.{List}
-use Prim.Native.Nat.{ℕ, _+_, _≤_, _<_}
-use lib.ListN.{length}
+use Prim.Native.Nat.{ℕ, _≤_, _<_}
+use lib.ListN.{length, take}
+use Rattle.grouping.specs.Grouping.{Below}
 use Rattle.grammar.specs.Grammar.{Items}
 use Rattle.grammar.specs.Reading.{readingOf}
 use Rattle.counting.specs.declared.Count.{Count}
@@ -29,6 +30,15 @@ pub record Roomy (n levels : ℕ) (named sorted starts : List ℕ) : Type 0 wher
   pub for-sorted : n ≤ length sorted
   pub for-levels : levels < length starts
   pub for-index : n ≤ length starts
+
+-- what arranging labels asks: keys below the number of levels, and places
+pub record LabelsAsked (n levels : ℕ) (labels sorted starts : List ℕ) : Type 0 where
+  pub inside : n ≤ length labels
+  pub sorted-room : n ≤ length sorted
+  pub starts-room : levels < length starts
+  pub index-room : n ≤ length starts
+  pub few : n ≤ 65536
+  pub keys : Below levels (take n labels)
 
 -- the labels of the reading of x, if there is room for them
 unfoldable pub PutOf : Items → List ℕ → List ℕ → Put → Type 0

@@ -1,15 +1,25 @@
 // The labels of a log, by level and those of one name brought together, handed to a lent table if it has room: over scratch of the
 // labels' number.
+use entries::Label;
+use entries::Net;
+use entries::add_action;
+use entries::level_at;
+use entries::open_level;
+use entries::open_top;
+use entries::owner_of;
 use entries::put_label;
+use events::Event;
+use events::event_of;
 use tables::copy_front;
 ghost use mathlib.Core.Path.{_≡_};
 ghost use Prim.Native.Nat.{_+_, _≤_, _<_};
-ghost use lib.ListN.{length, take, getD, set};
-ghost use Rattle.reading.specs.Told.{LabelsAsked};
+ghost use lib.ListN.{length, take};
+ghost use Rattle.events.specs.Log.{Holds};
+ghost use Rattle.entries.specs.Levels.{Small};
 ghost use Rattle.labels.specs.Labels.{Merged};
 ghost use Rattle.grouping.specs.Grouping.{grouped};
-ghost use Rattle.labelling.specs.Naming.{naming, step, Collects, Few};
-ghost use Rattle.labelling.specs.Putting.{Asked, Roomy, Puts};
+ghost use Rattle.labelling.specs.Naming.{naming, by, Collects, Few};
+ghost use Rattle.labelling.specs.Putting.{Asked, Roomy, LabelsAsked, Puts};
 
 // The level that is open, and how many levels and labels there are.
 pub struct Namer {
@@ -18,55 +28,49 @@ pub struct Namer {
     pub labels: usize,
 }
 
-fn store(table: &mut [u64], at: usize, word: u64)
-    ensures { λ _. ⌜ now (table .exit) ≡ set (now (table .entry)) at word ⌝ }
-{
-    if at < table.len() {
-        table[at] = word;
-    }
-}
-
-fn load(table: &[u64], at: usize) -> u64
-    ensures { λ r. ⌜ r ≡ getD (now (table .entry)) at 0 ⌝ }
-{
-    if at < table.len() { table[at] } else { 0 }
-}
-
-// `own` holds of each level so far the level around it and how many actions it has.
-fn name_event(word: u64, n: Namer, own: &mut [u64], named: &mut [u64]) -> Namer
-    requires { ⌜ Few 65536 n ⌝ }
-    ensures { λ r. ⌜ naming (now (own .exit)) (now (named .exit)) r ≡ step word (naming (now (own .entry)) (now (named .entry)) n) ⌝ }
-    ensures { λ r. ⌜ (r .levels ≤ n .levels + 1) × ((r .labels ≤ n .labels + 1) × (r .level < 1048576)) ⌝ }
+// `own` is a table of levels in which a level is the body of the level around it.
+fn name_event(event: Event, n: Namer, own: &mut [u64], named: &mut [u64]) -> Namer
+    requires { ⌜ Few 65536 n × Holds event ⌝ }
+    ensures { λ r. ⌜ naming (now (own .exit)) (now (named .exit)) r ≡ by event (naming (now (own .entry)) (now (named .entry)) n) ⌝ }
+    ensures { λ r. ⌜ (r .levels ≤ n .levels + 1) × ((r .labels ≤ n .labels + 1) × Small (r .level)) ⌝ }
 {
     let level = n.level;
-    let here = load(own, level);
-    match word / 1048576 {
-        0 => {
-            store(own, level, here % 1099511627776 + 1);
+    let here = level_at(own, level);
+    match event {
+        Event::Action(_) => {
+            add_action(own, level, Net::Height(0));
             n
         }
-        1 => {
-            put_label(named, n.labels, level as u64, word % 1048576, here % 1048576);
+        Event::Label(token) => {
+            let label = Label {
+                level,
+                token: token as usize,
+                position: here.actions,
+            };
+            put_label(named, n.labels, label);
             Namer {
                 level,
                 levels: n.levels,
                 labels: n.labels + 1,
             }
         }
-        2 => n,
-        3 => {
-            store(own, n.levels, level as u64 * 1048576);
+        Event::Operand(_) => n,
+        Event::Opened(_) => {
+            open_level(own, n.levels, 0, level);
             Namer {
                 level: n.levels,
                 levels: n.levels + 1,
                 labels: n.labels,
             }
         }
-        _ => Namer {
-            level: (here / 1048576 % 1048576) as usize,
-            levels: n.levels,
-            labels: n.labels,
-        },
+        Event::Closed => {
+            let block = here.block;
+            Namer {
+                level: owner_of(block),
+                levels: n.levels,
+                labels: n.labels,
+            }
+        }
     }
 }
 
@@ -75,7 +79,7 @@ fn collect(log: &[u64], own: &mut [u64], named: &mut [u64])
     requires { ⌜ length (now log) ≤ 65536 ⌝ }
     ensures { λ _. ⌜ Collects (now (log .entry)) (now (own .entry)) (now (named .entry)) (now (own .exit)) (now (named .exit)) ⌝ }
 {
-    store(own, 0, 0);
+    open_top(own);
     let mut n = Namer {
         level: 0,
         levels: 1,
@@ -83,7 +87,8 @@ fn collect(log: &[u64], own: &mut [u64], named: &mut [u64])
     };
     let mut i = 0;
     while i < log.len() {
-        n = name_event(log[i], n, own, named);
+        let event = event_of(log[i]);
+        n = name_event(event, n, own, named);
         i += 1;
     }
 }
@@ -147,7 +152,17 @@ fn put_64(text: &[u8], s: &[u64], log: &[u64], n: usize, levels: usize, labels: 
     let mut named = [0u64; 66];
     let mut sorted = [0u64; 66];
     let mut starts = [0u64; 66];
-    put_over(text, s, log, n, levels, &mut named, &mut sorted, &mut starts, labels)
+    put_over(
+        text,
+        s,
+        log,
+        n,
+        levels,
+        &mut named,
+        &mut sorted,
+        &mut starts,
+        labels,
+    )
 }
 
 fn put_512(text: &[u8], s: &[u64], log: &[u64], n: usize, levels: usize, labels: &mut [u64]) -> Put
@@ -158,7 +173,17 @@ fn put_512(text: &[u8], s: &[u64], log: &[u64], n: usize, levels: usize, labels:
     let mut named = [0u64; 514];
     let mut sorted = [0u64; 514];
     let mut starts = [0u64; 514];
-    put_over(text, s, log, n, levels, &mut named, &mut sorted, &mut starts, labels)
+    put_over(
+        text,
+        s,
+        log,
+        n,
+        levels,
+        &mut named,
+        &mut sorted,
+        &mut starts,
+        labels,
+    )
 }
 
 fn put_4096(text: &[u8], s: &[u64], log: &[u64], n: usize, levels: usize, labels: &mut [u64]) -> Put
@@ -172,24 +197,58 @@ fn put_4096(text: &[u8], s: &[u64], log: &[u64], n: usize, levels: usize, labels
     let mut named = [0u64; 4098];
     let mut sorted = [0u64; 4098];
     let mut starts = [0u64; 4098];
-    put_over(text, s, log, n, levels, &mut named, &mut sorted, &mut starts, labels)
+    put_over(
+        text,
+        s,
+        log,
+        n,
+        levels,
+        &mut named,
+        &mut sorted,
+        &mut starts,
+        labels,
+    )
 }
 
-fn put_65536(text: &[u8], s: &[u64], log: &[u64], n: usize, levels: usize, labels: &mut [u64]) -> Put
+fn put_32768(
+    text: &[u8],
+    s: &[u64],
+    log: &[u64],
+    n: usize,
+    levels: usize,
+    labels: &mut [u64],
+) -> Put
     requires { ⌜ Asked (now text) (now s) (now log) n levels ⌝ }
     ensures { λ r. ⌜ Puts (now (text .entry)) (now (s .entry)) (now (log .entry)) (now (labels .entry)) (now (labels .exit)) r ⌝ }
 {
     if log.len() < n {
-        return put_65536(text, s, log, n, levels, labels);
+        return put_32768(text, s, log, n, levels, labels);
     }
-    let mut named = [0u64; 65538];
-    let mut sorted = [0u64; 65538];
-    let mut starts = [0u64; 65538];
-    put_over(text, s, log, n, levels, &mut named, &mut sorted, &mut starts, labels)
+    let mut named = [0u64; 32770];
+    let mut sorted = [0u64; 32770];
+    let mut starts = [0u64; 32770];
+    put_over(
+        text,
+        s,
+        log,
+        n,
+        levels,
+        &mut named,
+        &mut sorted,
+        &mut starts,
+        labels,
+    )
 }
 
 // The labels of a log that names n of them, in so many levels.
-pub fn put_labels(text: &[u8], s: &[u64], log: &[u64], n: usize, levels: usize, labels: &mut [u64]) -> Put
+pub fn put_labels(
+    text: &[u8],
+    s: &[u64],
+    log: &[u64],
+    n: usize,
+    levels: usize,
+    labels: &mut [u64],
+) -> Put
     requires { ⌜ Asked (now text) (now s) (now log) n levels ⌝ }
     ensures { λ r. ⌜ Puts (now (text .entry)) (now (s .entry)) (now (log .entry)) (now (labels .entry)) (now (labels .exit)) r ⌝ }
 {
@@ -205,5 +264,5 @@ pub fn put_labels(text: &[u8], s: &[u64], log: &[u64], n: usize, levels: usize, 
     if n + levels <= 4096 {
         return put_4096(text, s, log, n, levels, labels);
     }
-    put_65536(text, s, log, n, levels, labels)
+    put_32768(text, s, log, n, levels, labels)
 }

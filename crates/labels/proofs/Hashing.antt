@@ -1,5 +1,5 @@
 -- A hash goes on by one byte; a bucket goes by level and name, and is one of n. Assumes nothing.
-use mathlib.Core.Path.{_≡_, ap, sym, _∙_}
+use mathlib.Core.Path.{_≡_, sym, _∙_}
 use mathlib.Core.Bool.{true}
 use mathlib.Core.List.{List}
 use Prim.Native.Nat.{ℕ, _+_, _*_, _/_, _%_, _≤_, _<_}
@@ -8,6 +8,8 @@ use native.Mathlib.Numerals.{add-one}
 use native.Mathlib.Omega.{arith}
 use lib.ListN.{length, drop, getD, drop-of-length-le}
 use lib.Seq.{drop-cons}
+use Rattle.entries.specs.declared.Label.{Label}
+use Rattle.entries.specs.Entries.{labelOf}
 use Rattle.labels.specs.Labels.{nameOf, isSame}
 use Rattle.labels.specs.Index.{hashOn, hashOf, bucketIn, bucketOf}
 use Rattle.labels.proofs.Same.{same-equal}
@@ -28,13 +30,13 @@ high-below : (h n : ℕ) → h < 4294967296 → 0 < n → h * n / 4294967296 < n
 high-below h n a b = omega (arith, mul-le-mul {n₁ = h} {m₁ = n} {n₂ = 4294967295} {m₂ = n} (omega arith) (omega arith))
 
 module _ (text s : List ℕ) (seed n : ℕ) where
-  pub bucket-of : (w : ℕ) {x : List ℕ} {b : ℕ} → x ≡ nameOf text s w → b ≡ bucketIn seed n (w / 1099511627776) x → b ≡ bucketOf text s seed n w
+  pub bucket-of : (w : ℕ) {l : Label} {x : List ℕ} {b : ℕ} → l ≡ labelOf w → x ≡ nameOf text s w → b ≡ bucketIn seed n (l .level) x → b ≡ bucketOf text s seed n w
   unfolding bucketOf
-  bucket-of w e f = f ∙ ap (bucketIn seed n (w / 1099511627776)) e
+  bucket-of w k e f = f ∙ (λ i. bucketIn seed n (k i .level) (e i))
 
   pub bucket-inside : (w : ℕ) → 0 < n → bucketOf text s seed n w < n
   unfolding bucketOf
-  bucket-inside w h = high-below (hashOf seed (w / 1099511627776) (nameOf text s w)) n (omega arith) h
+  bucket-inside w h = high-below (hashOf seed (labelOf w .level) (nameOf text s w)) n (omega arith) h
 
   pub same-bucket : (w v : ℕ) → isSame text s w v ≡ true → bucketOf text s seed n w ≡ bucketOf text s seed n v
   unfolding bucketOf

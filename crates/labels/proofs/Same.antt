@@ -2,12 +2,13 @@
 use mathlib.Core.Path.{_≡_, refl, ap, sym, _∙_}
 use mathlib.Core.Bool.{Bool, true, false, cond, _&&_}
 use mathlib.Core.List.{List, [], _∷_}
-use Prim.Native.Nat.{ℕ, zero, suc, _/_, _%_, _<_}
+use Prim.Native.Nat.{ℕ, zero, suc, _<_}
 use native.Mathlib.Omega.{arith}
 use lib.Dec.{eqb}
 use borrow.Author.Tests.{eqb-true, eq-eqb}
 use lib.ListN.{length, getD}
 use Rattle.tokens.specs.Tokens.{tokenOf, rawText}
+use Rattle.entries.specs.Entries.{labelOf}
 use Rattle.grammar.specs.Reading.{sameName}
 use Rattle.labels.specs.Labels.{nameOf, isSame, moved, firstSame, placed, merged}
 use Rattle.labels.specs.Index.{Apart, Distinct}
@@ -34,13 +35,13 @@ module _ (text s : List ℕ) where
   -- ---- two labels
 
   pub record Equal (w v : ℕ) : Type 0 where
-    pub levels : w / 1099511627776 ≡ v / 1099511627776
+    pub levels : labelOf w .level ≡ labelOf v .level
     pub names : nameOf text s w ≡ nameOf text s v
 
   pub same-equal : (w v : ℕ) → isSame text s w v ≡ true → Equal w v
   unfolding isSame
   same-equal w v e =
-      let h = both (eqb (w / 1099511627776) (v / 1099511627776)) (sameName (nameOf text s w) (nameOf text s v)) e in
+      let h = both (eqb (labelOf w .level) (labelOf v .level)) (sameName (nameOf text s w) (nameOf text s v)) e in
       record { levels = eqb-true _ _ (h .0); names = name-equal _ _ (h .1) }
 
   pub equal-same : (w v : ℕ) → Equal w v → isSame text s w v ≡ true
@@ -55,7 +56,7 @@ module _ (text s : List ℕ) where
 
   pub moved-equal : (w v : ℕ) → Equal (moved w v) v
   moved-equal w v =
-      let t : moved w v % 1048576 ≡ v % 1048576 = omega arith in
+      let t : labelOf (moved w v) .token ≡ labelOf v .token = omega arith in
       record { levels = omega arith; names = ap (λ (k : ℕ). rawText text (tokenOf (getD s k 0))) t }
 
   pub not-both : {b : Bool} → b ≡ true → b ≡ false → ⊥

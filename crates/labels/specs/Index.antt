@@ -6,6 +6,7 @@ use mathlib.Core.Bool.{false}
 use mathlib.Core.List.{List, [], _∷_, map}
 use Prim.Native.Nat.{ℕ, suc, _+_, _*_, _/_, _%_, _≤_, _<_}
 use lib.ListN.{length, take, getD, set}
+use Rattle.entries.specs.Entries.{labelOf}
 use Rattle.labels.specs.Labels.{nameOf, isSame, firstSame}
 use Rattle.labels.specs.declared.Found.{Found}
 
@@ -23,7 +24,7 @@ abbrev pub bucketIn : ℕ → ℕ → ℕ → List ℕ → ℕ
 bucketIn seed n level name = hashOf seed level name * n / 4294967296
 
 unfoldable pub bucketOf : List ℕ → List ℕ → ℕ → ℕ → ℕ → ℕ
-bucketOf text s seed n w = bucketIn seed n (w / 1099511627776) (nameOf text s w)
+bucketOf text s seed n w = bucketIn seed n (labelOf w .level) (nameOf text s w)
 
 abbrev pub headOf : List ℕ → ℕ → ℕ
 headOf index b = getD index b 0 % 4294967296

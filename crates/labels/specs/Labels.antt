@@ -1,28 +1,29 @@
--- Labels brought together. A label's word is its level, its position and its token: level * 2^40 + position * 2^20 + token.
+-- Labels brought together.
 use mathlib.Core.Path.{_≡_}
 use mathlib.Core.Bool.{Bool, cond, _&&_}
 use mathlib.Core.List.{List, [], _∷_, _++_}
-use Prim.Native.Nat.{ℕ, suc, _+_, _*_, _/_, _%_}
+use Prim.Native.Nat.{ℕ, suc}
 use lib.Dec.{eqb}
 use lib.ListN.{length, take, drop, getD}
 use Rattle.tokens.specs.Tokens.{tokenOf, rawText}
+use Rattle.entries.specs.Entries.{labelWord, labelOf}
 use Rattle.grammar.specs.Reading.{sameName}
 
 -- the raw text of the token that a label's word names
 abbrev pub nameOf : List ℕ → List ℕ → ℕ → List ℕ
-nameOf text s w = rawText text (tokenOf (getD s (w % 1048576) 0))
+nameOf text s w = rawText text (tokenOf (getD s (labelOf w .token) 0))
 
 -- whether the label v is of that level and name
 abbrev pub isNamed : List ℕ → List ℕ → ℕ → List ℕ → ℕ → Bool
-isNamed text s level name v = eqb level (v / 1099511627776) && sameName name (nameOf text s v)
+isNamed text s level name v = eqb level (labelOf v .level) && sameName name (nameOf text s v)
 
 -- one level and one name
 unfoldable pub isSame : List ℕ → List ℕ → ℕ → ℕ → Bool
-isSame text s w v = isNamed text s (w / 1099511627776) (nameOf text s w) v
+isSame text s w v = isNamed text s (labelOf w .level) (nameOf text s w) v
 
 -- v at the position of w
 abbrev pub moved : ℕ → ℕ → ℕ
-moved w v = v / 1099511627776 * 1099511627776 + w / 1048576 % 1048576 * 1048576 + v % 1048576
+moved w v = labelWord (record { level = labelOf v .level; token = labelOf v .token; position = labelOf w .position })
 
 -- the place of the first label that is the same as w, or how many there are
 abbrev pub firstSame : List ℕ → List ℕ → ℕ → List ℕ → ℕ

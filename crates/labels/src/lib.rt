@@ -1,5 +1,8 @@
 // Labels of one name and level brought together: written again, a label keeps its first place and takes the new position.
 // Where it is, chains of labels by a hash of level and name tell, in lent memory (specs/Index.antt).
+use entries::Label;
+use entries::label_of;
+use entries::label_word;
 use entries::token_in;
 use tokens::raw_text;
 ghost use mathlib.Core.Path.{_≡_};
@@ -45,27 +48,27 @@ pub fn same_bytes(a: &[u8], b: &[u8]) -> bool
 fn name_of<'a>(text: &'a [u8], s: &[u64], w: u64) -> &'a [u8]
     ensures { λ r. ⌜ now r ≡ nameOf (now (text .entry)) (now (s .entry)) w ⌝ }
 {
-    let t = token_in(s, (w % 1048576) as usize);
+    let t = token_in(s, label_of(w).token);
     raw_text(text, t)
 }
 
 // Whether the label v is of that level and name.
-fn is_named(text: &[u8], s: &[u64], level: u64, name: &[u8], v: u64) -> bool
+fn is_named(text: &[u8], s: &[u64], level: usize, name: &[u8], v: u64) -> bool
     ensures { λ r. ⌜ r ≡ isNamed (now (text .entry)) (now (s .entry)) level (now (name .entry)) v ⌝ }
 {
-    if level != v / 1099511627776 {
+    if level != label_of(v).level {
         return false;
     }
     same_bytes(name, name_of(text, s, v))
 }
 
 // The hash of a level and a name. The multiplication at the end spreads names that differ in the last byte only.
-fn hash_of(seed: u32, level: u64, name: &[u8]) -> u64
+fn hash_of(seed: u32, level: usize, name: &[u8]) -> u64
     requires { ⌜ level < 4294967295 ⌝ }
     ensures { λ r. ⌜ r ≡ hashOf seed level (now (name .entry)) ⌝ }
 {
     let base = seed as u64;
-    let mut h = level + 1;
+    let mut h = level as u64 + 1;
     let mut i = 0;
     while i < name.len() {
         h = (h * base + name[i] as u64) % 4294967296;
@@ -75,7 +78,7 @@ fn hash_of(seed: u32, level: u64, name: &[u8]) -> u64
 }
 
 // The bucket of a label: it goes by level and name alone. The high bits of their hash tell it, with no division by n.
-fn bucket(seed: u32, n: usize, level: u64, name: &[u8]) -> usize
+fn bucket(seed: u32, n: usize, level: usize, name: &[u8]) -> usize
     requires { ⌜ (n < 4294967296) × (level < 4294967295) ⌝ }
     ensures { λ r. ⌜ r ≡ bucketIn seed n level (now (name .entry)) ⌝ }
 {
@@ -113,7 +116,7 @@ fn rebuild(text: &[u8], s: &[u64], seed: u32, out: &[u64], m: usize, index: &mut
     let mut j = 0;
     while j < m {
         let w = out[j];
-        let b = bucket(seed, index.len(), w / 1099511627776, name_of(text, s, w));
+        let b = bucket(seed, index.len(), label_of(w).level, name_of(text, s, w));
         link(index, b, j);
         j += 1;
     }
@@ -156,7 +159,7 @@ fn find_label(
     requires { ⌜ Indexed (now text) (now s) seed m (now out) (now index) ⌝ }
     ensures { λ r. ⌜ Finds (now (text .entry)) (now (s .entry)) seed w (take m (now (out .entry))) (length (now (index .entry))) r ⌝ }
 {
-    let level = w / 1099511627776;
+    let level = label_of(w).level;
     let name = name_of(text, s, w);
     let b = bucket(seed, index.len(), level, name);
     let mut steps = 0;
@@ -184,7 +187,13 @@ fn find_label(
 fn move_label(w: u64, v: u64) -> u64
     ensures { λ r. ⌜ r ≡ moved w v ⌝ }
 {
-    v / 1099511627776 * 1099511627776 + w / 1048576 % 1048576 * 1048576 + v % 1048576
+    let kept = label_of(v);
+    let label = Label {
+        level: kept.level,
+        token: kept.token,
+        position: label_of(w).position,
+    };
+    label_word(label)
 }
 
 // a - b, but not below 0.

@@ -1,23 +1,20 @@
 -- How far a net goes: behind i actions from -3 i to i and the operands so far. Assumes nothing.
 use mathlib.Core.Path.{_≡_, refl}
 use mathlib.Core.Bool.{Bool, true, false, cond}
-use mathlib.Core.List.{List}
 use mathlib.Core.Option.{Option, none, some}
-use Prim.Native.Nat.{ℕ, zero, suc, _+_, _-_, _*_, _≤_, _<_}
+use Prim.Native.Nat.{ℕ, suc, _+_, _-_, _*_, _≤_, _<_}
 use native.Mathlib.Omega.{arith}
-use lib.Dec.{eqb, ltb}
+use lib.Dec.{ltb}
 use lib.IntN.{ℤ, pos, negsuc, _+ℤ_, subℕ}
-use lib.ListN.{getD}
 use borrow.Author.Tests.{ltb-true}
 use Rattle.names.specs.declared.ActionName.{ActionName}
 use Rattle.names.specs.declared.ActionName.the-variants as A
 use Rattle.actions.specs.Numbers.{isAction, oneOf}
 use Rattle.entries.specs.declared.Net.{Net}
 use Rattle.entries.specs.declared.Net.the-variants as N
-use Rattle.entries.specs.Entries.{netNumber}
 use Rattle.pcode.specs.Deltas.{deltaOf, fixedDelta, plusOne, minusOne, minusTwo, minusThree, undetermined, functions}
-use Rattle.nets.specs.Nets.{Covers, movedBy}
-use Rattle.nets.proofs.Numbers.{InReach}
+use Rattle.entries.specs.Levels.{SmallNet, NetFits}
+use Rattle.nets.specs.Nets.{movedBy}
 
 -- ---- one delta: from -3 to the number of values, or 1
 
@@ -49,11 +46,6 @@ delta-near a v empty =
     (either (Near v) (isAction a A.Push) _ _ (omega arith)
     (either (Near v) (oneOf a functions) _ _ (either (Near v) empty _ _ (omega arith) (omega arith)) (fixed-near v a)))
 
-pub covers : (n v : ℕ) (o : Option ℤ) → 3 ≤ n → NearIf v o → Covers n o
-covers n v none h g = tt
-covers n v (some (pos d)) h g = tt
-covers n v (some (negsuc d)) h g = omega arith
-
 -- ---- the net behind i actions with s operands
 
 abbrev pub Bounded : ℕ → ℕ → Net → Type 0
@@ -79,7 +71,24 @@ moved-bounded i s r o (N.Undetermined a) l b k = omega arith
 moved-bounded i s r none (N.Height h) l b k = omega arith
 moved-bounded i s r (some z) (N.Height h) l b k = sum i s r h z l b k
 
-pub in-reach : (i s : ℕ) (t : Net) → i ≤ 65536 → s ≤ 65536 → Bounded i s t → InReach t
-in-reach i s (N.Height (pos h)) l k b = omega arith
-in-reach i s (N.Height (negsuc h)) l k b = omega arith
-in-reach i s (N.Undetermined a) l k b = omega arith
+pub bounded-small : (i s : ℕ) (t : Net) → i ≤ 65536 → s ≤ 65536 → Bounded i s t → SmallNet t
+bounded-small i s (N.Height (pos h)) l k b = omega arith
+bounded-small i s (N.Height (negsuc h)) l k b = omega arith
+bounded-small i s (N.Undetermined a) l k b = omega arith
+
+-- ---- one move of any net that a word tells
+
+within : (a b : ℕ) → a < 393216 → b < 393216 → NetFits (N.Height (subℕ a b))
+within a b g h = by (ltb a b) refl
+  where
+    by : (c : Bool) → ltb a b ≡ c → NetFits (N.Height (cond c (negsuc (b - suc a)) (pos (a - b))))
+    by true e = omega arith
+    by false e = omega arith
+
+pub moved-fits : (a v : ℕ) (o : Option ℤ) (t : Net) → a ≤ 65536 → v ≤ 65536 → SmallNet t → NearIf v o → NetFits (movedBy o a t)
+moved-fits a v o (N.Undetermined b) l k s n = omega arith
+moved-fits a v none (N.Height h) l k s n = omega arith
+moved-fits a v (some (pos d)) (N.Height (pos h)) l k s n = omega arith
+moved-fits a v (some (negsuc d)) (N.Height (pos h)) l k s n = within h (suc d) (omega arith) (omega arith)
+moved-fits a v (some (pos d)) (N.Height (negsuc h)) l k s n = within d (suc h) (omega arith) (omega arith)
+moved-fits a v (some (negsuc d)) (N.Height (negsuc h)) l k s n = omega arith

@@ -1,4 +1,3 @@
 pub mod Bounds
 pub mod Numbers
 pub mod Turns
-pub mod Next

@@ -18,19 +18,21 @@ use Rattle.numbers.specs.declared.Integer.the-variants as I
 use Rattle.numbers.specs.Integers.{isNatural, natural, integer}
 use Rattle.scanner.specs.Bytes.{runOf}
 use Rattle.values.specs.Values.{integerText, i32Of}
-use Rattle.grammar.specs.Operands.{Lexeme, string, bool, u8, u16, identifier, isOperand}
-use Rattle.grammar.proofs.Tests.{acting, operand-not, newline}
-use Rattle.grammar.proofs.Plans.{Params, simple, registers, behindCount, function, within, trying}
-use Rattle.grammar.proofs.Events.{given}
-use Rattle.grammar.proofs.Machine.{Nesting, p-comma, Symbol, mark, operand, flag, counted, level, State, item, ended, list₀, list₁, no-handlers, silent, out, stop, go, further, move, on-count}
-use Rattle.grammar.proofs.Depth.{fault}
+use Rattle.lexemes.specs.Lexemes.{Lexeme}
+use Rattle.lexemes.specs.Operands.{string, bool, u8, u16, identifier, isOperand, acting}
+use Rattle.lexemes.specs.Events.{given}
+use Rattle.lexemes.proofs.Tests.{operand-not, newline}
+use Rattle.machine.specs.Plans.{Params, simple, registers, behindCount, function, within, trying}
+use Rattle.machine.specs.Machine.{Nesting, p-comma, Symbol, mark, operand, flag, counted, level, State, item, ended, list₀, list₁, no-handlers, silent, out, stop, go, further, move, on-count}
+use Rattle.machine.specs.Depth.{fault}
 use Rattle.operands.specs.declared.At.{At}
 use Rattle.operands.specs.declared.Step.{Step}
 use Rattle.operands.specs.declared.Step.the-variants.{To, Bad}
 use Rattle.operands.specs.declared.Class.{Class}
 use Rattle.operands.specs.declared.Class.the-variants as C
 use Rattle.operands.specs.Lexemes.{lexemeOf, kindAt, classOf, classAt, fitsAt, actingAs, countAt, isInteger, isCountAt}
-use Rattle.operands.specs.Log.{Log, log, logWord, passed, logged}
+use Rattle.events.specs.Log.{logWord}
+use Rattle.operands.specs.Log.{Log, log, passed, logged}
 use Rattle.operands.specs.Contract.{judge, outcome, Fine, Ahead, Reads, nothing, at-end as action-ends, OperandRead, CommaRead, NextRead, TwoRead, ThreeRead, repeated, RepeatRead, paired, PairRead, PairsRead, NameRead, CountRead, NamesRead, FunctionRead, FlagsRead, FlagsPairsRead, RegistersRead, Function2Read, FrameRead, ValuesRead, ListRead, left, OperandsRead}
 use Rattle.operands.proofs.OneToken.{kind-inside, fits-inside, fits-there, count-inside, is-count-inside, is-count-there}
 use Rattle.operands.proofs.Places.{at-step, at-stop, at-end, past-same}

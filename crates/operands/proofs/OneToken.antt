@@ -35,25 +35,12 @@ use Rattle.values.specs.declared.PushValue.{PushValue}
 use Rattle.values.specs.declared.TokenValue.{TokenValue}
 use Rattle.values.specs.declared.TokenValue.the-variants as V′
 use Rattle.values.specs.Values.{doubleOrLong, floatValue, integerOr, integerValue, pushValue, orSix, valueAnswer, answer, integerText, i32Of}
-use Rattle.grammar.specs.Operands.{isSome, isParsed}
+use Rattle.lexemes.specs.Operands.{isSome, isParsed}
 use Rattle.operands.specs.declared.Class.{Class}
 use Rattle.operands.specs.declared.Class.the-variants as C
 use Rattle.operands.specs.Lexemes.{Sound, kindAt, classAt, fitsAt, actingAs, countAt, isInteger, isCountAt}
 
 -- ---- the kind's place
-
-place-in : (p c : ℕ) → codeOf (kindIn (p carrying c)) .place ≡ cond (ltb p 18) p 18
-place-in p c = by (ltb p 18) refl
-  where
-    by : (t : Bool) → ltb p 18 ≡ t → codeOf (kindIn (p carrying c)) .place ≡ cond t p 18
-    by true e = agree (λ q. codeOf (kindIn (q carrying c)) .place) (λ q. q) 18 p refl (ltb-true p 18 e)
-    by false e = ap (λ k. codeOf k .place) (List·getD-eq-default (kinds c) K.Unknown (ltb-false p 18 e))
-
-word-place : (w : ℕ) → codeOf (tokenOf w .kind) .place ≡ cond (ltb (w / 72057594037927936) 18) (w / 72057594037927936) 18
-unfolding tokenOf kindOf
-word-place w =
-    let e : w / 1099511627776 / 65536 ≡ w / 72057594037927936 = omega arith in
-    place-in (w / 1099511627776 / 65536) (w / 1099511627776 % 65536) ∙ ap (λ (p : ℕ). cond (ltb p 18) p 18) e
 
 pub kind-inside : (s : List ℕ) (at : ℕ) → at < length s → kindAt s at ≡ codeOf (tokenOf (getD s at 0) .kind) .place
 unfolding kindAt
@@ -63,11 +50,8 @@ pub kind-past : (s : List ℕ) (at : ℕ) → length s ≤ at → 99 ≡ kindAt 
 unfolding kindAt
 kind-past s at h = rw (le-ltb at (length s) h)
 
-pub kind-low : (s : List ℕ) (at : ℕ) → at < length s → getD s at 0 / 72057594037927936 < 18 → getD s at 0 / 72057594037927936 ≡ kindAt s at
-kind-low s at h l = sym (kind-inside s at h ∙ word-place (getD s at 0) ∙ rw (lt-ltb (getD s at 0 / 72057594037927936) 18 l))
-
-pub kind-high : (s : List ℕ) (at : ℕ) → at < length s → 18 ≤ getD s at 0 / 72057594037927936 → 18 ≡ kindAt s at
-kind-high s at h l = sym (kind-inside s at h ∙ word-place (getD s at 0) ∙ rw (le-ltb (getD s at 0 / 72057594037927936) 18 l))
+pub kind-is : (s : List ℕ) (at : ℕ) {r : ℕ} → at < length s → r ≡ codeOf (tokenOf (getD s at 0) .kind) .place → r ≡ kindAt s at
+kind-is s at h e = e ∙ sym (kind-inside s at h)
 
 -- ---- values
 

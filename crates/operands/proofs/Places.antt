@@ -6,8 +6,8 @@ use Prim.Native.Nat.{ℕ, zero, suc, _+_, _-_, _≤_, _<_}
 use native.Mathlib.Numerals.{add-one}
 use native.Mathlib.Omega.{arith}
 use lib.ListN.{length, getD, drop, length-drop, drop-of-length-le}
-use Rattle.grammar.proofs.Machine.{Nesting, top, inner, State, Symbol, level, Output, stop, go, move, may-end, puts}
-use Rattle.grammar.proofs.Depth.{fault, limited-proceed, within-room, room-after}
+use Rattle.machine.specs.Machine.{Nesting, top, inner, State, Symbol, level, Output, stop, go, move, may-end, puts}
+use Rattle.machine.specs.Depth.{fault, limited-proceed, within-room, room-after}
 use Rattle.operands.specs.Lexemes.{lexemeOf, lexemesFrom, lexemes}
 use Rattle.operands.specs.Log.{Log, emit}
 use Rattle.operands.specs.Contract.{judge}

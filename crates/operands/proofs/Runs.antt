@@ -12,17 +12,19 @@ use types.Run.{OneOf, miss}
 use Rattle.tokens.specs.declared.TokenKind.{TokenKind}
 use Rattle.tokens.specs.Kinds.{codeOf}
 use Rattle.tokens.specs.Tokens.{tokenOf, rawText}
-use Rattle.grammar.specs.Operands.{lexeme, isOperand}
-use Rattle.grammar.proofs.Events.{given}
-use Rattle.grammar.proofs.Machine.{Nesting, Punctuation, p-comma, p-colon, kind-of, Symbol, mark, operand, silent, out, stop, go, move}
-use Rattle.grammar.proofs.Depth.{fault}
+use Rattle.lexemes.specs.Lexemes.{lexeme}
+use Rattle.lexemes.specs.Operands.{isOperand}
+use Rattle.lexemes.specs.Events.{given}
+use Rattle.machine.specs.Machine.{Nesting, Punctuation, p-comma, p-colon, kind-of, Symbol, mark, operand, silent, out, stop, go, move}
+use Rattle.machine.specs.Depth.{fault}
 use Rattle.operands.proofs.Step.{the-type}
 use Rattle.operands.specs.declared.At.{At}
 use Rattle.operands.specs.declared.Step.{Step}
 use Rattle.operands.specs.declared.Step.the-variants.{To, Bad, Deep}
 use Rattle.operands.specs.declared.Class.{Class}
 use Rattle.operands.specs.Lexemes.{lexemeOf, kindAt, classOf, classAt, fitsAt}
-use Rattle.operands.specs.Log.{Log, log, logWord, passed, logged}
+use Rattle.events.specs.Log.{logWord}
+use Rattle.operands.specs.Log.{Log, log, passed, logged}
 use Rattle.operands.specs.Contract.{judge, outcome, Fine, Onward, Ahead, Reads, Passes, nothing, OperandRead, CommaRead, NextRead}
 use Rattle.operands.proofs.OneToken.{kind-inside, kind-past, fits-inside, fits-there}
 use Rattle.operands.proofs.Places.{at-step, at-stop, at-end}

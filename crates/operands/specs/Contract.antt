@@ -6,11 +6,11 @@ use mathlib.Core.List.{List, [], _∷_, _++_}
 use Prim.Native.Nat.{ℕ, _-_, _≤_}
 use lib.ListN.{length, drop, replicate}
 use Rattle.shapes.specs.declared.Shape.{Shape}
-use Rattle.grammar.specs.Operands.{string, u8}
-use Rattle.grammar.specs.Grammar.{body, pairs}
-use Rattle.grammar.proofs.Plans.{simple, registers, behindCount, Plan, plain, listing, frame, function, within, trying, planOf}
-use Rattle.grammar.proofs.Machine.{Nesting, Symbol, mark, operand, flag, counted, opens, targets, level, p-comma, ended, no-handlers, list₀, list₁, further, start}
-use Rattle.grammar.proofs.Depth.{Verdict, fault, too-deep, limited}
+use Rattle.lexemes.specs.Operands.{string, u8, pairs}
+use Rattle.lexemes.specs.Events.{body}
+use Rattle.machine.specs.Plans.{simple, registers, behindCount, Plan, plain, listing, frame, function, within, trying, planOf}
+use Rattle.machine.specs.Machine.{Nesting, Symbol, mark, operand, flag, counted, opens, targets, level, p-comma, ended, no-handlers, list₀, list₁, further, start}
+use Rattle.machine.specs.Depth.{Verdict, fault, too-deep, limited}
 use Rattle.operands.specs.declared.At.{At}
 use Rattle.operands.specs.declared.Step.{Step}
 use Rattle.operands.specs.declared.Step.the-variants.{To, Bad, Deep}

@@ -11,8 +11,9 @@ use Rattle.numbers.specs.declared.Integer.the-variants as I
 use Rattle.tokens.specs.Kinds.{codeOf}
 use Rattle.tokens.specs.Tokens.{tokenOf, rawText, isWithin}
 use Rattle.values.specs.Values.{i32Of}
-use Rattle.grammar.specs.Operands.{Lexeme, lexeme, string, value, bool, u8, u16, identifier, target, isOperand}
-use Rattle.grammar.specs.Operands as G
+use Rattle.lexemes.specs.Lexemes.{Lexeme, lexeme}
+use Rattle.lexemes.specs.Operands.{string, value, bool, u8, u16, identifier, target, isOperand}
+use Rattle.lexemes.specs.Operands as G
 use Rattle.operands.specs.declared.Class.{Class}
 use Rattle.operands.specs.declared.Class.the-variants as C
 

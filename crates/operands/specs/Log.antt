@@ -1,11 +1,11 @@
 -- The log: what is read, as events in the order of the text, one word each.
 use mathlib.Core.List.{List}
-use Prim.Native.Nat.{ℕ, _+_, _*_}
+use Prim.Native.Nat.{ℕ, _+_}
 use lib.ListN.{set}
 use Rattle.actions.specs.Numbers.{numberOf}
-use Rattle.grammar.specs.Operands.{placeOf}
-use Rattle.grammar.specs.Grammar.{Part, body, try, catch, finally}
-use Rattle.grammar.proofs.Events.{Event, acted, named, given, opened, closed}
+use Rattle.events.specs.Log.{logWord}
+use Rattle.lexemes.specs.Lexemes.{placeOf}
+use Rattle.lexemes.specs.Events.{Part, body, try, catch, finally, Event, acted, named, given, opened, closed}
 use Rattle.operands.specs.declared.At.{At}
 
 abbrev pub partNumber : Part → ℕ
@@ -13,10 +13,6 @@ partNumber body = 0
 partNumber try = 1
 partNumber catch = 2
 partNumber finally = 3
-
--- which event, above twenty bits for what it holds
-abbrev pub logWord : ℕ → ℕ → ℕ
-logWord k n = k * 1048576 + n
 
 abbrev pub eventWord : Event → ℕ
 eventWord (acted a) = logWord 0 (numberOf a)

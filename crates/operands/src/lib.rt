@@ -1,8 +1,10 @@
 // The readers of an action's operands, by the names of the Rust's parser/actions.rs: functions over a token index by value. What
 // they read they write into a log of events, from which the tables are made.
+use events::log_word;
 use numbers::Integer;
 use numbers::Natural;
 use shapes::Shape;
+use tokens::kind_place;
 use tokens::token_of;
 use values::TokenValue;
 use values::i32_of;
@@ -17,7 +19,8 @@ ghost use lib.ListN.{length, set};
 ghost use Rattle.operands.specs.declared.Class.the-variants as C;
 ghost use Rattle.operands.specs.Lexemes.{Sound, kindAt, classAt, fitsAt, actingAs, countAt, isCountAt};
 ghost use Rattle.numbers.specs.declared.Integer.the-variants as I;
-ghost use Rattle.operands.specs.Log.{logWord, passed, logged};
+ghost use Rattle.events.specs.Log.{Holdable, logWord};
+ghost use Rattle.operands.specs.Log.{passed, logged};
 ghost use Rattle.operands.specs.Contract.{Fine, OperandRead, CommaRead, NextRead, TwoRead, ThreeRead, RepeatRead, PairRead, PairsRead, NameRead, CountRead, NamesRead, FunctionRead, FlagsRead, FlagsPairsRead, RegistersRead, Function2Read, FrameRead, ValuesRead, ListRead, OperandsRead};
 
 // The next token, and how many events the log holds.
@@ -66,12 +69,7 @@ const GIVEN: u64 = 2;
 pub fn kind_at(s: &[u64], at: usize) -> u64
     ensures { λ r. ⌜ r ≡ kindAt (now (s .entry)) at ⌝ }
 {
-    if at < s.len() {
-        let p = s[at] / 72057594037927936;
-        if p < 18 { p } else { 18 }
-    } else {
-        99
-    }
+    if at < s.len() { kind_place(s[at]) } else { 99 }
 }
 
 fn value_at(text: &[u8], s: &[u64], at: usize) -> bool
@@ -174,11 +172,11 @@ fn is_count(text: &[u8], s: &[u64], at: usize) -> bool
 // Writes an event, if the log has that place.
 pub fn write_event(events: &mut [u64], n: usize, kind: u64, holds: u64)
     requires { ⌜ kind ≤ 4 ⌝ }
-    requires { ⌜ holds < 1048576 ⌝ }
+    requires { ⌜ Holdable holds ⌝ }
     ensures { λ _. ⌜ now (events .exit) ≡ set (now (events .entry)) n (logWord kind holds) ⌝ }
 {
     if n < events.len() {
-        events[n] = kind * 1048576 + holds;
+        events[n] = log_word(kind, holds);
     }
 }
 

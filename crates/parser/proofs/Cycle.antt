@@ -22,17 +22,17 @@ use Rattle.tokens.specs.declared.Token.{Token}
 use Rattle.tokens.specs.Kinds.{codeOf}
 use Rattle.tokens.specs.Tokens.{tokenOf, rawText}
 use Rattle.tokens.proofs.TokenKind.{the-type as kind-type}
-use Rattle.grammar.specs.Operands.{lexeme}
-use Rattle.grammar.specs.Grammar.{body, try, catch, finally}
-use Rattle.grammar.proofs.Plans.{planOf}
-use Rattle.grammar.proofs.Events.{acted, opened, closed}
-use Rattle.grammar.proofs.Machine.{Nesting, top, inner, Handlers, no-handlers, after-try, after-catch, Symbol, opens, targets, level, item, ended, silent, out, stop, move, start, target-out, puts}
-use Rattle.grammar.proofs.Depth.{read, fault}
+use Rattle.lexemes.specs.Lexemes.{lexeme}
+use Rattle.lexemes.specs.Events.{body, try, catch, finally, acted, opened, closed}
+use Rattle.machine.specs.Plans.{planOf}
+use Rattle.machine.specs.Machine.{Nesting, top, inner, Handlers, no-handlers, after-try, after-catch, Symbol, opens, targets, level, item, ended, silent, out, stop, move, start, target-out, puts}
+use Rattle.machine.specs.Depth.{read, fault}
 use Rattle.operands.specs.declared.At.{At}
 use Rattle.operands.specs.declared.Step.{Step}
 use Rattle.operands.specs.declared.Step.the-variants.{To, Bad, Deep}
 use Rattle.operands.specs.Lexemes.{kindAt}
-use Rattle.operands.specs.Log.{Log, log, logWord, emit, passed, logged, partNumber}
+use Rattle.events.specs.Log.{Holdable, logWord}
+use Rattle.operands.specs.Log.{Log, log, emit, passed, logged, partNumber}
 use Rattle.operands.specs.Contract.{judge, outcome, Fine, Onward, Ahead, Reads, at-end as action-ends, left, OperandsRead}
 use Rattle.operands.proofs.OneToken.{kind-inside}
 use Rattle.operands.proofs.Places.{lexemes-end, at-step, at-stop, at-end}
@@ -653,5 +653,5 @@ module _ (text s a a′ : List ℕ) (c d : At) (n : ActionName) (w : Shape) (t :
       ItemRead text s a l c room r″
   action-whole b l room r r′ r″ p′ q′ v u g o h = action-ok word b room r v p′ u l r′ g q′ r″ o h
 
-pub number-fits : (n : ActionName) (j : ℕ) → j ≡ numberOf n → j < 1048576
+pub number-fits : (n : ActionName) (j : ℕ) → j ≡ numberOf n → Holdable j
 number-fits n j e = omega (arith, number-below n)

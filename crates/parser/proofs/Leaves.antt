@@ -12,18 +12,19 @@ use Rattle.tokens.specs.declared.TokenKind.{TokenKind}
 use Rattle.tokens.specs.declared.TokenKind.the-variants as K
 use Rattle.tokens.specs.Kinds.{codeOf, isKind}
 use Rattle.tokens.specs.Tokens.{tokenOf, rawText}
-use Rattle.grammar.specs.Operands.{Lexeme, lexeme, isOperand}
-use Rattle.grammar.specs.Operands as G
-use Rattle.grammar.specs.Grammar.{try, catch, finally}
-use Rattle.grammar.proofs.Tests.{kind-is, operand-not, open-brace}
-use Rattle.grammar.proofs.Events.{named, opened}
-use Rattle.grammar.proofs.Machine.{Nesting, inner, Handlers, no-handlers, after-try, after-catch, p-colon, Symbol, mark, opens, targets, level, item, ended, silent, out, go, move, target-out, puts}
+use Rattle.lexemes.specs.Lexemes.{Lexeme, lexeme}
+use Rattle.lexemes.specs.Operands.{isOperand}
+use Rattle.lexemes.specs.Operands as G
+use Rattle.lexemes.specs.Events.{try, catch, finally, named, opened}
+use Rattle.lexemes.proofs.Tests.{kind-is, operand-not, open-brace}
+use Rattle.machine.specs.Machine.{Nesting, inner, Handlers, no-handlers, after-try, after-catch, p-colon, Symbol, mark, opens, targets, level, item, ended, silent, out, go, move, target-out, puts}
 use Rattle.operands.specs.declared.At.{At}
 use Rattle.operands.specs.declared.Step.{Step}
 use Rattle.operands.specs.declared.Step.the-variants.{To, Bad, Deep}
 use Rattle.operands.specs.declared.Class.the-variants as C
 use Rattle.operands.specs.Lexemes.{lexemeOf, kindAt, classAt, fitsAt}
-use Rattle.operands.specs.Log.{Log, log, logWord, emit, passed, logged}
+use Rattle.events.specs.Log.{Holdable, logWord}
+use Rattle.operands.specs.Log.{Log, log, emit, passed, logged}
 use Rattle.operands.specs.Contract.{judge, outcome, Fine, Ahead}
 use Rattle.operands.proofs.OneToken.{kind-inside, kind-past, fits-inside, fits-there}
 use Rattle.operands.proofs.Places.{at-move, at-step, at-stop, at-end, past-same}
@@ -148,7 +149,7 @@ target-none text s c ok f e y = record { says = λ x σ n L. by (ltb (c .at) (le
 pub past-token : (c d : At) (a : CatchTarget) (t : ℕ) → a ≡ T.Token t → d ≡ passed c → d ≡ pastTarget c a
 past-token c d a t e q = rw e q
 
-pub give-bound : (c : At) (a : CatchTarget) (t : ℕ) → GiveAsked c a → a ≡ T.Token t → t < 1048576
+pub give-bound : (c : At) (a : CatchTarget) (t : ℕ) → GiveAsked c a → a ≡ T.Token t → Holdable t
 give-bound c a t g e = let k : TargetBefore c (T.Token t) = subst (λ (x : CatchTarget). TargetBefore c x) e (g .before) in omega (arith, g .at, k)
 
 pub give-token : (a b : List ℕ) (c : At) (t : CatchTarget) (i : ℕ) → t ≡ T.Token i → b ≡ set a (c .events) (logWord 2 i) →

@@ -7,13 +7,15 @@ use native.Mathlib.Omega.{arith}
 use lib.ListN.{length, drop, set, length-map}
 use lib.Seq.{sets, sets-eq}
 use Rattle.answers.specs.Answers.{accepted, refused}
-use Rattle.grammar.specs.Operands.{Lexeme}
+use Rattle.lexemes.specs.Lexemes.{Lexeme}
+use Rattle.lexemes.specs.Events.{Event, acted, named, given, opened, closed}
+use Rattle.machine.specs.Depth.{Verdict, read, fault, too-deep}
+use Rattle.machine.proofs.Runs.{gives}
 use Rattle.grammar.specs.Grammar.{Items, done, label, action, Blocks, no-blocks, block, Text}
 use Rattle.grammar.specs.Reading.{readingOf}
 use Rattle.grammar.specs.Refusals.{Outcome}
-use Rattle.grammar.proofs.Events.{Event, acted, named, given, opened, closed, leading, waiting, gives, emits, emits-blocks}
-use Rattle.grammar.proofs.Unique.{givens, events, block-events}
-use Rattle.grammar.proofs.Depth.{Verdict, read, fault, too-deep}
+use Rattle.grammar.specs.Trees.{leading, waiting, givens, events, block-events}
+use Rattle.grammar.proofs.Events.{emits, emits-blocks}
 use Rattle.grammar.proofs.Outcomes.{Means, is-read, not-grammatical, opens-too-deep, meaning}
 use Rattle.operands.specs.declared.At.{At}
 use Rattle.operands.specs.declared.Step.{Step}

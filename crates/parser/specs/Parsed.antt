@@ -7,7 +7,7 @@ use Rattle.answers.specs.Answers.{accepted, refused}
 use Rattle.grammar.specs.Grammar.{Items, Text}
 use Rattle.grammar.specs.Reading.{readingOf}
 use Rattle.grammar.specs.Refusals.{Outcome}
-use Rattle.grammar.proofs.Unique.{events}
+use Rattle.grammar.specs.Trees.{events}
 use Rattle.operands.specs.declared.At.{At}
 use Rattle.operands.specs.declared.Step.{Step}
 use Rattle.operands.specs.declared.Step.the-variants.{To, Bad, Deep}

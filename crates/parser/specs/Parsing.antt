@@ -6,16 +6,17 @@ use mathlib.Core.Option.{Option, none, some}
 use Prim.Native.Nat.{ℕ, suc, _+_, _-_, _≤_, _<_}
 use lib.ListN.{length, getD, set}
 use Rattle.shapes.specs.declared.Shape.{Shape}
-use Rattle.grammar.specs.Operands.{Lexeme}
-use Rattle.grammar.specs.Grammar.{Part, body, try, catch, finally}
-use Rattle.grammar.proofs.Plans.{planOf}
-use Rattle.grammar.proofs.Machine.{Nesting, top, inner, Handlers, no-handlers, after-try, after-catch, Symbol, mark, p-colon, opens, targets, level, item, ended, target-out, puts}
-use Rattle.grammar.proofs.Depth.{Verdict, read, fault, too-deep}
+use Rattle.lexemes.specs.Lexemes.{Lexeme}
+use Rattle.lexemes.specs.Events.{Part, body, try, catch, finally}
+use Rattle.machine.specs.Plans.{planOf}
+use Rattle.machine.specs.Machine.{Nesting, top, inner, Handlers, no-handlers, after-try, after-catch, Symbol, mark, p-colon, opens, targets, level, item, ended, target-out, puts}
+use Rattle.machine.specs.Depth.{Verdict, read, fault, too-deep}
 use Rattle.operands.specs.declared.At.{At}
 use Rattle.operands.specs.declared.Step.{Step}
 use Rattle.operands.specs.declared.Step.the-variants.{To, Bad, Deep}
 use Rattle.operands.specs.Lexemes.{lexemeOf, kindAt}
-use Rattle.operands.specs.Log.{Log, log, logWord, emit, passed}
+use Rattle.events.specs.Log.{logWord}
+use Rattle.operands.specs.Log.{Log, log, emit, passed}
 use Rattle.operands.specs.Contract.{judge, outcome, Fine, Ahead, Reads, Passes, nothing, at-end, left}
 use Rattle.parser.specs.declared.CatchTarget.{CatchTarget}
 use Rattle.parser.specs.declared.CatchTarget.the-variants as T

@@ -1,19 +1,16 @@
--- How many operands each action has, and the numbers of blocks. Assumes nothing.
-use mathlib.Core.Path.{_≡_, refl, sym, ap, _∙_}
+-- How many operands each action has, and how many entries there are. Assumes nothing.
+use mathlib.Core.Path.{_≡_, refl, ap, _∙_}
 use mathlib.Core.Bool.{Bool, cond}
 use mathlib.Core.List.{List, [], _∷_, _++_, map}
-use Prim.Native.Nat.{ℕ, zero, suc, _+_, _*_, _<_}
+use Prim.Native.Nat.{ℕ, zero, suc, _+_, _<_}
 use native.Mathlib.Omega.{arith}
 use borrow.Author.Tests.{eq-eqb, ne-eqb}
 use lib.ListN.{length}
-use Rattle.grammar.specs.Operands.{Lexeme}
-use Rattle.grammar.specs.Grammar.{Part, body, try, catch, finally}
+use Rattle.lexemes.specs.Lexemes.{Lexeme}
 use Rattle.grammar.specs.Reading.{Acted, operandsFrom}
 use Rattle.grammar.specs.Reading as R
 use Rattle.grammar.specs.Nets.{Net}
-use Rattle.operands.specs.Log.{partNumber}
-use Rattle.entries.specs.Entries.{blockNumber}
-use Rattle.reading.specs.Tables.{under, actionEntries, partOf, levelEntries}
+use Rattle.reading.specs.Tables.{under, actionEntries, levelEntries}
 
 -- ---- actions
 
@@ -67,12 +64,6 @@ module _ (os : List R.Operand) where
   entry-count (x ∷ xs) a first = ap suc (entry-count xs (suc a) (first + under a os))
 
 -- ---- levels
-
-pub block-number : (p : Part) (a : ℕ) → blockNumber (partOf p a) ≡ a * 4 + partNumber p + 1
-block-number body a = omega arith
-block-number try a = omega arith
-block-number catch a = omega arith
-block-number finally a = omega arith
 
 pub level-count : (ls : List R.Level) (ns : List Net) → length ns ≡ length ls → length (levelEntries ls ns) ≡ length ls
 level-count [] ns h = refl

@@ -1,33 +1,28 @@
 -- The lent tables once a tree's log is written: those of its reading. Assumes nothing.
-use mathlib.Core.Path.{_≡_, refl, sym, ap, subst, _∙_}
-use mathlib.Core.List.{List, [], _∷_, _++_, map}
-use Prim.Native.Nat.{ℕ, zero, suc, _+_, _*_, _≤_, _<_}
+use mathlib.Core.Path.{_≡_, refl, sym, ap, _∙_}
+use mathlib.Core.List.{List, [], _∷_, map}
+use Prim.Native.Nat.{ℕ, suc, _+_, _≤_}
 use native.Mathlib.Omega.{arith}
 use lib.IntN.{pos}
-use lib.ListN.{length, getD, set, length-append, length-map, length-set}
+use lib.ListN.{length, set, length-append, length-map, length-set}
 use lib.Seq.{sets, set-set, getD-set-same}
-use Rattle.actions.specs.Numbers.{numberOf}
-use Rattle.actions.proofs.Numbers.{number-below}
-use Rattle.entries.specs.declared.Net.the-variants as N
-use Rattle.entries.specs.Entries.{actionWord, levelWord, netNumber}
-use Rattle.entries.specs.Fields.{actionFields, levelFields}
+use Rattle.entries.specs.declared.Block.the-variants as B
+use Rattle.entries.specs.Entries.{actionWord, levelWord}
+use Rattle.entries.specs.Levels.{fresh}
 use Rattle.grammar.specs.Grammar.{Items, done, label, action, Blocks, no-blocks, block}
 use Rattle.grammar.specs.Reading.{Acted, Opened, ownActions, allActions, actionsInside, opened, openedOf, openedIn, actedOf, actedIn, operandsFrom, readingOf}
 use Rattle.grammar.specs.Reading as R
 use Rattle.grammar.specs.Nets.{Net, netFrom, nets}
-use Rattle.grammar.proofs.Unique.{events}
-use Rattle.grammar.proofs.Sizes.{size, sizes}
+use Rattle.grammar.specs.Trees.{size, sizes}
 use Rattle.parser.specs.Parsed.{logOf}
-use Rattle.writing.specs.declared.Writer.{Writer}
 use Rattle.writing.specs.Writing.{Written, written, steps, start, Writes}
 use Rattle.reading.specs.Tables.{under, actionEntries, levelEntries, front, actionWords, operandEntryWord, operandWords, levelWords}
 use Rattle.reading.specs.Told.{Known, Filled}
 use Rattle.reading.proofs.Trees.{acted-count, lastOf}
 use Rattle.reading.proofs.Entries.{given, under-given}
-use Rattle.reading.proofs.Nets.{runFrom}
 use Rattle.reading.proofs.Sets.{at-front}
-use Rattle.reading.proofs.Gathered.{words}
-use Rattle.reading.proofs.Writes.{ops, actWords, opWords, op-length, act-length, ops-append, levelFinal, standing, of-items, after}
+use Rattle.reading.proofs.Words.{ops, actWord, actWords, opWords, op-length, act-length, ops-append, levelFinal}
+use Rattle.reading.proofs.Writes.{Point, at, levelAfter, behind, of-items}
 
 -- ---- a tree's entries are no more than its size
 
@@ -70,8 +65,8 @@ entries-are os [] a first h = refl
 entries-are os (l ∷ ls) a first h =
     let z : a + 0 ≡ a = omega arith in
     let e : under a os ≡ length (l .operands) = sym (ap (λ k. under k os) z) ∙ h 0 in
-    let w : actionWord (record { name = l .name; level = l .level; first = first; count = under a os }) ≡ actionFields (numberOf (l .name)) (l .level) first (length (l .operands)) =
-    omega (arith, e, number-below (l .name))
+    let w : actionWord (record { name = l .name; level = l .level; first = first; count = under a os }) ≡ actWord first l =
+    ap (λ k. actionWord (record { name = l .name; level = l .level; first = first; count = k })) e
     in
     let s : (j : ℕ) → suc a + j ≡ a + suc j = λ j. omega arith in
     λ j. w j ∷ (entries-are os ls (suc a) (first + under a os) (λ k. ap (λ q. under q os) (s k) ∙ h (suc k)) ∙ ap (λ q. actWords (first + q) ls) e) j
@@ -122,18 +117,19 @@ pub filled : (text s log xs os ls xs′ os′ ls′ : List ℕ) (x : Items) → 
 unfolding written
 filled text s log xs os ls xs′ os′ ls′ x known e w ra ro rl =
     let acts = actedOf 0 1 x in
-    let v₀ = levelFields 0 0 196608 in
-    let v₁ = levelFields 0 (0 + ownActions x) (netNumber (runFrom 0 (N.Height (pos 0)) x)) in
+    let v₀ = fresh B.Top in
+    let v₁ = levelAfter v₀ 0 x in
+    let P : Point = record { actions = xs; operands = os; levels = set ls 0 (levelWord v₀); a = 0; q = 0; m = 1 } in
     let fs = few-of x 0 1 0 in
     let am = actions-many x in
     let om = operands-many x in
     let lm = levels-many x in
-    let all : written xs′ os′ ls′ (w .at) ≡ after text s (known .few) xs os (set ls 0 v₀) 0 0 0 0 1 0 0 (N.Height (pos 0)) x =
+    let all : written xs′ os′ ls′ (w .at) ≡ at (behind P 0 v₀ x) 0 (lastOf 0 0 x) =
     w .all ∙ ap (λ l. steps text s l (start xs os ls)) e
-    ∙ of-items text s (known .few) x [] xs os (set ls 0 v₀) 0 0 0 0 1 0 0 (N.Height (pos 0))
+    ∙ of-items text s (known .few) x [] P 0 0 v₀
     (record {
       inside = omega arith;
-      here = getD-set-same ls 0 v₀ 0 (omega (arith, lm));
+      here = getD-set-same ls 0 (levelWord v₀) 0 (omega (arith, lm));
       block = omega arith;
       count = omega arith;
       near = omega arith;
@@ -141,7 +137,7 @@ filled text s log xs os ls xs′ os′ ls′ x known e w ra ro rl =
     (record {
       actions = omega (arith, am);
       operands = omega (arith, om);
-      levels = omega (arith, lm, length-set ls 0 v₀);
+      levels = omega (arith, lm, length-set ls 0 (levelWord v₀));
       few-actions = omega (arith, fs, known .small, known .few);
       few-operands = omega (arith, fs, known .small, known .few);
       few-levels = omega (arith, fs, known .small, known .few);
@@ -157,8 +153,8 @@ filled text s log xs os ls xs′ os′ ls′ x known e w ra ro rl =
           ∙ ap (λ l. front l os) (sym (operands-are x));
       levels =
           ap (λ (T : Written). T .levels) all
-          ∙ ap (λ l. sets l 1 (map levelFinal (openedOf 0 x))) (set-set ls 0 v₀ v₁)
-          ∙ (λ j. sets ls 0 (levelFields 0 (z j) (netNumber (runFrom 0 (N.Height (pos 0)) x)) ∷ map levelFinal (openedOf 0 x)))
+          ∙ ap (λ l. sets l 1 (map levelFinal (openedOf 0 x))) (set-set ls 0 (levelWord v₀) (levelWord v₁))
+          ∙ (λ j. sets ls 0 (levelWord (record { block = B.Top; actions = z j; net = v₁ .net }) ∷ map levelFinal (openedOf 0 x)))
           ∙ at-front (map levelFinal (opened x)) ls (omega (arith, length-map (openedOf 0 x) levelFinal, lm))
           ∙ ap (λ l. front l ls) (sym (levels-are x));
     }

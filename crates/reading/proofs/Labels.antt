@@ -2,18 +2,19 @@
 use mathlib.Core.Path.{_≡_, refl, sym, ap, _∙_}
 use mathlib.Core.Bool.{Bool, true, false, cond}
 use mathlib.Core.List.{List, [], _∷_, _++_, map, map-append, append-assoc, append-nil}
-use Prim.Native.Nat.{ℕ, suc, _+_, _/_, _≤_, _<_}
+use Prim.Native.Nat.{ℕ, suc, _+_, _≤_, _<_}
 use native.Mathlib.Omega.{arith}
 use lib.ListN.{length, getD}
 use Rattle.tokens.specs.Tokens.{tokenOf, rawText}
-use Rattle.grammar.specs.Operands.{Lexeme, raw, placeOf}
+use Rattle.lexemes.specs.Lexemes.{Lexeme, raw, placeOf}
+use Rattle.lexemes.proofs.Tests.{either}
 use Rattle.grammar.specs.Grammar.{Items, done, label, action, Blocks, no-blocks, block}
 use Rattle.grammar.specs.Reading as R
 use Rattle.grammar.specs.Reading.{Opened, ownActions, allActions, actionsInside, openedOf, openedIn, opened, sameName, place, ownLabels, labelsFrom}
-use Rattle.grammar.proofs.Tests.{either}
 use Rattle.operands.specs.Lexemes.{lexemeOf}
 use Rattle.entries.specs.declared.Label as D
-use Rattle.entries.specs.Entries as E
+use Rattle.entries.specs.Entries.{labelWord, labelOf}
+use Rattle.entries.specs.Levels.{Small}
 use Rattle.entries.proofs.Words.{label-back}
 use Rattle.labels.specs.Labels.{nameOf, isSame, moved, placed, merged}
 use Rattle.labels.proofs.Placing.{one-level, other-level, merged-append}
@@ -26,9 +27,9 @@ module _ (text s : List ℕ) where
   -- the token table has the lexeme at its place, and the place fits a label's word
   pub record Found (t : Lexeme) : Type 0 where
     pub text-of : raw t ≡ rawText text (tokenOf (getD s (placeOf t) 0))
-    pub low : placeOf t < 1048576
+    pub low : Small (placeOf t)
 
-  pub is-found : (t : Lexeme) → length s ≤ 1048576 → placeOf t < length s → t ≡ lexemeOf text (placeOf t) (getD s (placeOf t) 0) → Found t
+  pub is-found : (t : Lexeme) → length s ≤ 65536 → placeOf t < length s → t ≡ lexemeOf text (placeOf t) (getD s (placeOf t) 0) → Found t
   is-found t h g e = record { text-of = ap raw e; low = omega arith }
 
   -- every name of a level's own labels
@@ -40,7 +41,7 @@ module _ (text s : List ℕ) where
   -- a level whose labels' words can be told apart
   pub record Sound (l : Opened) : Type 0 where
     pub named : Named (l .items)
-    pub few : ownActions (l .items) < 1048576
+    pub few : Small (ownActions (l .items))
 
   -- ---- the parts of a label's word
 
@@ -48,13 +49,13 @@ module _ (text s : List ℕ) where
   record Own (ℓ : ℕ) (l : R.Label) : Type 0 where
     level : l .level ≡ ℓ
     name : Found (l .name)
-    position : l .position < 1048576
+    position : Small (l .position)
 
   module _ (ℓ : ℕ) (l : R.Label) (o : Own ℓ l) where
-    back : E.labelOf (labelEntryWord l) ≡ labelEntry l
+    back : labelOf (labelEntryWord l) ≡ labelEntry l
     back = label-back (labelEntry l) (o .name .low) (o .position)
 
-    level-is : labelEntryWord l / 1099511627776 ≡ ℓ
+    level-is : labelOf (labelEntryWord l) .level ≡ ℓ
     level-is = ap (λ (e : D.Label). e .level) back ∙ o .level
 
     name-is : nameOf text s (labelEntryWord l) ≡ raw (l .name)
@@ -73,7 +74,7 @@ module _ (text s : List ℕ) where
 
     moved-word : (k : R.Label) → Own ℓ k → moved (labelEntryWord l) (labelEntryWord k) ≡ labelEntryWord (again k)
     unfolding again
-    moved-word k h = λ i. E.labelWord (record { level = back ℓ k h i .level; token = back ℓ k h i .token; position = back ℓ l o i .position })
+    moved-word k h = λ i. labelWord (record { level = back ℓ k h i .level; token = back ℓ k h i .token; position = back ℓ l o i .position })
 
     place-words : (ks : List R.Label) → Every (Own ℓ) ks → placed text s (labelEntryWord l) (map labelEntryWord ks) ≡ map labelEntryWord (place l ks)
     unfolding again
@@ -95,7 +96,7 @@ module _ (text s : List ℕ) where
         (h .0, place-own ks (h .1))
 
     -- labels of lower levels are passed over
-    pass : (front ws : List ℕ) → Every (λ (w : ℕ). w / 1099511627776 < ℓ) front
+    pass : (front ws : List ℕ) → Every (λ (w : ℕ). labelOf w .level < ℓ) front
         → placed text s (labelEntryWord l) (front ++ ws) ≡ front ++ placed text s (labelEntryWord l) ws
     pass [] ws h = refl
     pass (w ∷ front) ws h =
@@ -105,9 +106,9 @@ module _ (text s : List ℕ) where
   -- ---- the labels of one level, behind those of lower levels
 
   abbrev Lower : ℕ → List ℕ → Type 0
-  Lower ℓ ws = Every (λ (w : ℕ). w / 1099511627776 < ℓ) ws
+  Lower ℓ ws = Every (λ (w : ℕ). labelOf w .level < ℓ) ws
 
-  merged-own : (ℓ : ℕ) (front : List ℕ) → Lower ℓ front → (x : Items) (p : ℕ) (ks : List R.Label) → Named x → p + ownActions x < 1048576 → Every (Own ℓ) ks
+  merged-own : (ℓ : ℕ) (front : List ℕ) → Lower ℓ front → (x : Items) (p : ℕ) (ks : List R.Label) → Named x → Small (p + ownActions x) → Every (Own ℓ) ks
       → merged text s (front ++ map labelEntryWord ks) (ownWords ℓ p x) ≡ front ++ map labelEntryWord (ownLabels ℓ p ks x)
   merged-own ℓ front f done p ks h g o = refl
   merged-own ℓ front f (label t x) p ks h g o =
@@ -117,7 +118,7 @@ module _ (text s : List ℕ) where
       ∙ merged-own ℓ front f x p (place l ks) (h .1) g (place-own ℓ l own ks o)
   merged-own ℓ front f (action n os bs x) p ks h g o = merged-own ℓ front f x (suc p) ks h (omega (arith, g)) o
 
-  labels-own : (ℓ : ℕ) (x : Items) (p : ℕ) (ks : List R.Label) → Named x → p + ownActions x < 1048576 → Every (Own ℓ) ks → Every (Own ℓ) (ownLabels ℓ p ks x)
+  labels-own : (ℓ : ℕ) (x : Items) (p : ℕ) (ks : List R.Label) → Named x → Small (p + ownActions x) → Every (Own ℓ) ks → Every (Own ℓ) (ownLabels ℓ p ks x)
   labels-own ℓ done p ks h g o = o
   labels-own ℓ (label t x) p ks h g o =
       let l : R.Label = record { level = ℓ; name = t; position = p } in
@@ -139,11 +140,11 @@ module _ (text s : List ℕ) where
   merged-from [] ℓ front f h = sym (append-nil front)
   merged-from (l ∷ ls) ℓ front f h =
       let x = l .items in
-      let g : 0 + ownActions x < 1048576 = omega (arith, h .0 .few) in
+      let g : Small (0 + ownActions x) = omega (arith, h .0 .few) in
       let own = ownLabels ℓ 0 [] x in
       let rest = labelsFrom (suc ℓ) ls in
       let low : Lower (suc ℓ) (front ++ map labelEntryWord own) =
-      every-append (λ (w : ℕ). w / 1099511627776 < suc ℓ) front (map labelEntryWord own) (raised ℓ front f) (own-lower ℓ own (labels-own ℓ x 0 [] (h .0 .named) g tt))
+      every-append (λ (w : ℕ). labelOf w .level < suc ℓ) front (map labelEntryWord own) (raised ℓ front f) (own-lower ℓ own (labels-own ℓ x 0 [] (h .0 .named) g tt))
       in
       merged-append text s front (ownWords ℓ 0 x) (runs labelRun (suc ℓ) ls)
       ∙ ap (λ (q : List ℕ). merged text s q (runs labelRun (suc ℓ) ls))
@@ -163,7 +164,7 @@ module _ (text s : List ℕ) where
   all-named (action n os bs x) h = all-named x (h .1 .1)
 
   mutual
-    sound-of : (x : Items) (a : ℕ) → AllOf Found x → allActions x < 1048576 → Every Sound (openedOf a x)
+    sound-of : (x : Items) (a : ℕ) → AllOf Found x → Small (allActions x) → Every Sound (openedOf a x)
     sound-of done a h g = tt
     sound-of (label t x) a h g = sound-of x a (h .1) g
     sound-of (action n os bs x) a h g =
@@ -171,7 +172,7 @@ module _ (text s : List ℕ) where
         every-append Sound (openedIn a (suc a) bs) (openedOf a′ x)
         (sound-in bs a (suc a) (h .1 .0) (omega (arith, g))) (sound-of x a′ (h .1 .1) (omega (arith, g)))
 
-    sound-in : (bs : Blocks) (o a : ℕ) → AllIn Found bs → actionsInside bs < 1048576 → Every Sound (openedIn o a bs)
+    sound-in : (bs : Blocks) (o a : ℕ) → AllIn Found bs → Small (actionsInside bs) → Every Sound (openedIn o a bs)
     sound-in no-blocks o a h g = tt
     sound-in (block p x bs) o a h g =
         let a′ = a + allActions x in (
@@ -179,5 +180,5 @@ module _ (text s : List ℕ) where
           every-append Sound (openedOf a x) (openedIn o a′ bs) (sound-of x a (h .0) (omega (arith, g))) (sound-in bs o a′ (h .1) (omega (arith, g))),
         )
 
-  pub all-sound : (x : Items) → AllOf Found x → allActions x < 1048576 → Every Sound (opened x)
+  pub all-sound : (x : Items) → AllOf Found x → Small (allActions x) → Every Sound (opened x)
   all-sound x h g = (record { named = all-named x h; few = omega (arith, g, own-few x) }, sound-of x 0 h g)

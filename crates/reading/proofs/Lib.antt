@@ -10,8 +10,8 @@ pub mod Entries
 pub mod Nets
 pub mod Tokens
 pub mod Parse
-pub mod Arranging
 pub mod Gathered
+pub mod Words
 pub mod Writes
 pub mod Front
 pub mod Tallies

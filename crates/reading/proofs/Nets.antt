@@ -7,7 +7,7 @@ use lib.ListN.{length}
 use Rattle.entries.specs.declared.Net.{Net}
 use Rattle.entries.specs.declared.Net.the-variants as N
 use Rattle.pcode.specs.Deltas.{deltaOf}
-use Rattle.grammar.specs.Operands.{Lexeme}
+use Rattle.lexemes.specs.Lexemes.{Lexeme}
 use Rattle.grammar.specs.Grammar.{Items, done, label, action, Blocks}
 use Rattle.grammar.specs.Reading.{Acted, actionsInside}
 use Rattle.grammar.specs.Nets.{nameIsEmpty, moved, netFrom}

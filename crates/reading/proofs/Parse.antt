@@ -17,11 +17,11 @@ use Rattle.lexer.proofs.Sound.{AllWhole, all-whole}
 use Rattle.tokens.specs.declared.Token.{Token}
 use Rattle.tokens.specs.Tokens.{wordOf}
 use Rattle.utf8.specs.Utf8.{validUpTo}
-use Rattle.grammar.specs.Operands.{Lexeme, numbered}
+use Rattle.lexemes.specs.Lexemes.{Lexeme, numbered}
 use Rattle.grammar.specs.Grammar.{Text}
 use Rattle.grammar.specs.Reading.{readingOf}
 use Rattle.grammar.specs.Refusals.{Outcome, Answers, rows₁₋₅, rows₆₋₇}
-use Rattle.grammar.proofs.Sizes.{fits-size}
+use Rattle.grammar.proofs.Sizes.{fits-size, fits-halves, blocks-opened}
 use Rattle.operands.specs.declared.At.{At}
 use Rattle.operands.specs.declared.Step.the-variants.{To, Bad, Deep}
 use Rattle.operands.specs.Lexemes.{lexemes, Sound}
@@ -30,6 +30,7 @@ use Rattle.parser.specs.Parsed as P
 use Rattle.parser.specs.Parsed.{logOf, Parsed}
 use Rattle.reading.specs.Told.{Of, Logged}
 use Rattle.reading.proofs.Places.{text-all}
+use Rattle.reading.proofs.Trees.{named-count}
 use Rattle.reading.proofs.Tokens.{lexemes-numbered, words-sound, all-of}
 
 module _ (text : List ℕ) (room : ℕ) (b : length text ≤ 65536) (u : length text ≤ validUpTo text) where
@@ -135,6 +136,8 @@ module _ (text : List ℕ) (room : ℕ) (b : length text ≤ 65536) (u : length 
                   known = text-all (Of text s) (p .fits) (all-of text s);
                   few = omega (arith, words-count, lexed .few, b);
                   small = omega (arith, fits-size (p .fits), lexemes-length text s);
+                  named-half = omega (arith, fits-halves (p .fits) .labels, named-count (p .tree) 0 1 0, lexemes-length text s);
+                  opened-half = omega (arith, fits-halves (p .fits) .blocks, blocks-opened (p .tree) 0, lexemes-length text s);
                 };
                 log-of = events-are p;
                 events = omega (arith, words-count, ap length (events-are p), p .count, events-in p);

@@ -1,6 +1,7 @@
 -- What holds of every token of a text holds of every token in its tree. Assumes nothing.
 use mathlib.Core.List.{List, [], _∷_}
-use Rattle.grammar.specs.Operands.{Lexeme, Class}
+use Rattle.lexemes.specs.Lexemes.{Lexeme}
+use Rattle.lexemes.specs.Operands.{Class}
 use Rattle.grammar.specs.Grammar.{Items, done, label, action, Blocks, no-blocks, block, Body, Operands, no-operand, last, comma, Newlines, no-newline, newline, Ended, text-ends, line-ends, Level, level, Written, ends, names, acts, Block, braces, Bodies, no-body, one-body, try-body, Catch, no-catch, catches, Finally, no-finally, finishes, Text}
 use Rattle.reading.specs.Trees.{All, AllOf, AllIn}
 

@@ -1,10 +1,10 @@
 -- Runs of stores: put together, read, and put at the front. Assumes nothing.
-use mathlib.Core.Path.{_≡_, refl, sym, ap, subst, _∙_}
+use mathlib.Core.Path.{_≡_, refl, ap, _∙_}
 use mathlib.Core.List.{List, [], _∷_, _++_}
-use Prim.Native.Nat.{ℕ, zero, suc, _+_, _≤_, _<_}
+use Prim.Native.Nat.{ℕ, suc, _+_, _≤_, _<_}
 use native.Mathlib.Omega.{arith}
-use lib.ListN.{length, take, drop, getD, set, length-set}
-use lib.Seq.{sets, sets-eq, length-sets, getD-set-same, getD-set-other, set-comm}
+use lib.ListN.{length, drop, getD, set}
+use lib.Seq.{sets, sets-eq, getD-set-same, getD-set-other, set-comm}
 use Rattle.reading.specs.Tables.{front}
 
 pub joined : (u l v : List ℕ) (i j : ℕ) → j ≡ i + length u → sets (sets l i u) j v ≡ sets l i (u ++ v)

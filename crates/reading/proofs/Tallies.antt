@@ -1,26 +1,29 @@
 -- How many events of each kind a tree has: the counts of its reading, labels written again counted again. Assumes nothing.
-use mathlib.Core.Path.{_≡_, refl, sym, ap, _∙_}
-use mathlib.Core.List.{List, [], _∷_, _++_, map}
-use Prim.Native.Nat.{ℕ, zero, suc, _+_, _/_, _≤_, _<_}
+use mathlib.Core.Path.{_≡_, refl, ap, _∙_}
+use mathlib.Core.Bool.{cond}
+use mathlib.Core.List.{List, [], _∷_}
+use Prim.Native.Nat.{ℕ, suc, _+_}
 use native.Mathlib.Omega.{arith}
+use lib.Dec.{eqb}
 use lib.ListN.{length, length-append}
-use borrow.Author.Tests.{eq-eqb, ne-eqb}
 use Rattle.actions.specs.Numbers.{numberOf}
 use Rattle.actions.proofs.Numbers.{number-below}
 use Rattle.counting.specs.declared.Count.{Count}
-use Rattle.counting.specs.Counting.{oneIf, countOf, Counted}
-use Rattle.grammar.specs.Operands.{Lexeme, placeOf}
-use Rattle.grammar.specs.Grammar.{Part, body, try, catch, finally, Items, done, label, action, Blocks, no-blocks, block}
+use Rattle.counting.specs.Counting.{countOf, Counted}
+use Rattle.lexemes.specs.Lexemes.{Lexeme, placeOf}
+use Rattle.lexemes.specs.Events.{Event}
+use Rattle.lexemes.specs.Events as E
+use Rattle.grammar.specs.Grammar.{Items, done, label, action, Blocks, no-blocks, block}
 use Rattle.grammar.specs.Reading.{allActions, actionsInside, openedOf, openedIn, actedOf, actedIn, readingOf}
-use Rattle.grammar.proofs.Events.{Event, leading, waiting}
-use Rattle.grammar.proofs.Events as E
-use Rattle.grammar.proofs.Unique.{events, block-events, givens}
-use Rattle.operands.specs.Log.{partNumber, logWord, eventWord}
+use Rattle.grammar.specs.Trees.{leading, waiting, events, block-events, givens}
+use Rattle.events.specs.Log.{Holdable, logWord}
+use Rattle.events.proofs.Words.{kind-is}
+use Rattle.operands.specs.Log.{partNumber}
 use Rattle.parser.specs.Parsed.{logOf}
 use Rattle.reading.specs.Trees.{All, AllOf, AllIn, IsLow, namedOf, namedIn}
 use Rattle.reading.proofs.Trees.{opened-count, opened-counts, part-below, low-leading, low-waiting, parted}
-use Rattle.reading.proofs.Gathered.{words, kind-is}
-use Rattle.reading.proofs.Writes.{ops, ops-append}
+use Rattle.reading.proofs.Gathered.{words}
+use Rattle.reading.proofs.Words.{ops, ops-append}
 use Rattle.reading.proofs.Front.{actions-many, operands-many, levels-many}
 
 -- the words l have so many actions, labels, operands and blocks more than the words k
@@ -43,62 +46,23 @@ both a n o b a′ n′ o′ b′ x y z w s t e f g h =
     }
 
 -- one word, by its kind
-module _ (k v : ℕ) (h : v < 1048576) where
-  is : (q : ℕ) → k ≡ q → oneIf q (logWord k v) ≡ 1
-  is q e = simp (eq-eqb (logWord k v / 1048576) q (kind-is k v h ∙ e))
+abbrev one : ℕ → ℕ → ℕ
+one k q = cond (eqb k q) 1 0
 
-  is-not : (q : ℕ) → (k ≡ q → ⊥) → oneIf q (logWord k v) ≡ 0
-  is-not q n = simp (ne-eqb (logWord k v / 1048576) q (λ e. n (sym (kind-is k v h) ∙ e)))
-
-acted-one : (v : ℕ) (l : List ℕ) → v < 1048576 → Tally (logWord 0 v ∷ l) 1 0 0 0 l
-acted-one v l h =
+word : (k v : ℕ) (l : List ℕ) → Holdable v → Tally (logWord k v ∷ l) (one k 0) (one k 1) (one k 2) (one k 3) l
+word k v l h =
+    let e = kind-is k v h in
     record {
-      actions = omega (arith, is 0 v h 0 refl);
-      labels = omega (arith, is-not 0 v h 1 (λ e. omega arith));
-      operands = omega (arith, is-not 0 v h 2 (λ e. omega arith));
-      blocks = omega (arith, is-not 0 v h 3 (λ e. omega arith));
-    }
-
-named-one : (v : ℕ) (l : List ℕ) → v < 1048576 → Tally (logWord 1 v ∷ l) 0 1 0 0 l
-named-one v l h =
-    record {
-      actions = omega (arith, is-not 1 v h 0 (λ e. omega arith));
-      labels = omega (arith, is 1 v h 1 refl);
-      operands = omega (arith, is-not 1 v h 2 (λ e. omega arith));
-      blocks = omega (arith, is-not 1 v h 3 (λ e. omega arith));
-    }
-
-given-one : (v : ℕ) (l : List ℕ) → v < 1048576 → Tally (logWord 2 v ∷ l) 0 0 1 0 l
-given-one v l h =
-    record {
-      actions = omega (arith, is-not 2 v h 0 (λ e. omega arith));
-      labels = omega (arith, is-not 2 v h 1 (λ e. omega arith));
-      operands = omega (arith, is 2 v h 2 refl);
-      blocks = omega (arith, is-not 2 v h 3 (λ e. omega arith));
-    }
-
-opened-one : (v : ℕ) (l : List ℕ) → v < 1048576 → Tally (logWord 3 v ∷ l) 0 0 0 1 l
-opened-one v l h =
-    record {
-      actions = omega (arith, is-not 3 v h 0 (λ e. omega arith));
-      labels = omega (arith, is-not 3 v h 1 (λ e. omega arith));
-      operands = omega (arith, is-not 3 v h 2 (λ e. omega arith));
-      blocks = omega (arith, is 3 v h 3 refl);
-    }
-
-closed-one : (l : List ℕ) → Tally (logWord 4 0 ∷ l) 0 0 0 0 l
-closed-one l =
-    record {
-      actions = omega (arith, is-not 4 0 (omega arith) 0 (λ e. omega arith));
-      labels = omega (arith, is-not 4 0 (omega arith) 1 (λ e. omega arith));
-      operands = omega (arith, is-not 4 0 (omega arith) 2 (λ e. omega arith));
-      blocks = omega (arith, is-not 4 0 (omega arith) 3 (λ e. omega arith));
+      actions = ap (λ q. one q 0 + countOf 0 l) e;
+      labels = ap (λ q. one q 1 + countOf 1 l) e;
+      operands = ap (λ q. one q 2 + countOf 2 l) e;
+      blocks = ap (λ q. one q 3 + countOf 3 l) e;
     }
 
 givens-tally : (os : List Lexeme) (k : List Event) → All IsLow os → Tally (words (givens os k)) 0 0 (length os) 0 (words k)
 givens-tally [] k h = none (words k)
 givens-tally (t ∷ os) k h =
-    both 0 0 1 0 0 0 (length os) 0 0 0 (suc (length os)) 0 (given-one (placeOf t) (words (givens os k)) (h .0)) (givens-tally os k (h .1)) refl refl (omega arith) refl
+    both 0 0 1 0 0 0 (length os) 0 0 0 (suc (length os)) 0 (word 2 (placeOf t) (words (givens os k)) (h .0)) (givens-tally os k (h .1)) refl refl (omega arith) refl
 
 mutual
   tally-of : (x : Items) (k : List Event) (ℓ m p : ℕ) → AllOf IsLow x
@@ -106,14 +70,14 @@ mutual
   tally-of done k ℓ m p h = none (words k)
   tally-of (label t x) k ℓ m p h =
       both 0 1 0 0 (allActions x) (length (namedOf ℓ m p x)) (ops (actedOf ℓ m x)) (length (openedOf 0 x)) _ _ _ _
-      (named-one (placeOf t) (words (events x k)) (h .0)) (tally-of x k ℓ m p (h .1)) (omega arith) (omega arith) (omega arith) (omega arith)
+      (word 1 (placeOf t) (words (events x k)) (h .0)) (tally-of x k ℓ m p (h .1)) (omega arith) (omega arith) (omega arith) (omega arith)
   tally-of (action n os bs x) k ℓ m p h =
       let m′ = m + length (openedIn 0 0 bs) in
       let r = tally-of x k ℓ m′ (suc p) (h .1 .1) in
       let s = tally-in bs os (events x k) m (h .0) (h .1 .0) in
       both 1 0 0 0 (actionsInside bs + allActions x) (length (namedIn m bs) + length (namedOf ℓ m′ (suc p) x)) (length os + ops (actedIn m bs) + ops (actedOf ℓ m′ x))
       (length (openedIn 0 0 bs) + length (openedOf 0 x)) _ _ _ _
-      (acted-one (numberOf n) (words (block-events bs os (events x k))) (omega (arith, number-below n)))
+      (word 0 (numberOf n) (words (block-events bs os (events x k))) (omega (arith, number-below n)))
       (both (actionsInside bs) (length (namedIn m bs)) (length os + ops (actedIn m bs)) (length (openedIn 0 0 bs)) (allActions x) (length (namedOf ℓ m′ (suc p) x)) (ops (actedOf ℓ m′ x)) (length (openedOf 0 x)) _ _ _ _ s r refl refl refl refl)
       (omega arith)
       (omega (arith, length-append (namedIn m bs) (namedOf ℓ m′ (suc p) x)))
@@ -130,9 +94,9 @@ mutual
       let lead = length (leading p os) in
       let wait = length (waiting p os) in
       let g = givens-tally (leading p os) (E.opened p ∷ events x (E.closed ∷ rest)) (low-leading p os l) in
-      let i = opened-one (partNumber p) (words (events x (E.closed ∷ rest))) (omega (arith, part-below p)) in
+      let i = word 3 (partNumber p) (words (events x (E.closed ∷ rest))) (omega (arith, part-below p)) in
       let t = tally-of x (E.closed ∷ rest) m (suc m) 0 (h .0) in
-      let c = closed-one (words rest) in
+      let c = word 4 0 (words rest) (omega arith) in
       let r = tally-in bs (waiting p os) k m′ (low-waiting p os l) (h .1) in
       let a = allActions x in
       let n = length (namedOf m (suc m) 0 x) in

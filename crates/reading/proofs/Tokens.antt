@@ -10,7 +10,7 @@ use Rattle.tokens.specs.declared.Token.{Token}
 use Rattle.tokens.specs.Tokens.{isWithin, rawText, tokenOf, wordOf}
 use Rattle.tokens.proofs.Words.{round-trip}
 use Rattle.lexer.proofs.Sound.{Whole, AllWhole}
-use Rattle.grammar.specs.Operands.{lexeme, numbered}
+use Rattle.lexemes.specs.Lexemes.{lexeme, numbered}
 use Rattle.operands.specs.Lexemes.{lexemeOf, lexemes, lexemesFrom, Sound}
 use Rattle.reading.specs.Trees.{All}
 use Rattle.reading.specs.Told.{Of}

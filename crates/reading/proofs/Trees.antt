@@ -1,15 +1,17 @@
 -- Counts of a tree that do not depend on numbers. Assumes nothing.
 use mathlib.Core.Path.{_≡_, refl, ap}
-use mathlib.Core.List.{List, [], _∷_, _++_, map}
+use mathlib.Core.List.{List}
 use Prim.Native.Nat.{ℕ, suc, _+_, _<_}
 use native.Mathlib.Omega.{arith}
 use lib.ListN.{length, length-append}
-use Rattle.grammar.specs.Operands.{Lexeme}
-use Rattle.grammar.specs.Grammar.{Part, body, try, catch, finally, Items, done, label, action, Blocks, no-blocks, block}
+use Rattle.lexemes.specs.Lexemes.{Lexeme}
+use Rattle.lexemes.specs.Events.{Part, body, try, catch, finally}
+use Rattle.grammar.specs.Grammar.{Items, done, label, action, Blocks, no-blocks, block}
 use Rattle.grammar.specs.Reading.{allActions, actionsInside, openedOf, openedIn, actedOf, actedIn}
-use Rattle.grammar.proofs.Events.{leading, waiting}
+use Rattle.grammar.specs.Trees.{leading, waiting}
 use Rattle.operands.specs.Log.{partNumber}
-use Rattle.reading.specs.Trees.{All, IsLow}
+use Rattle.grammar.proofs.Sizes.{allLabels, labelsInside}
+use Rattle.reading.specs.Trees.{All, IsLow, namedOf, namedIn}
 
 -- the last action of a level, if it has one
 abbrev pub lastOf : ℕ → ℕ → Items → ℕ
@@ -18,10 +20,6 @@ lastOf b a (label t x) = lastOf b a x
 lastOf b a (action n os bs x) = lastOf a (suc a + actionsInside bs) x
 
 -- ---- counts do not depend on numbers
-
-pub map-append : {A B : Type 0} (f : A → B) (l k : List A) → map f (l ++ k) ≡ map f l ++ map f k
-map-append f [] k = refl
-map-append f (y ∷ l) k = ap (λ r. f y ∷ r) (map-append f l k)
 
 mutual
   pub opened-count : (x : Items) (a b : ℕ) → length (openedOf a x) ≡ length (openedOf b x)
@@ -47,6 +45,18 @@ mutual
   acted-counts no-blocks m = refl
   acted-counts (block p x bs) m =
       simp length-append (omega (arith, acted-count x m (suc m), acted-counts bs (suc m + length (openedOf 0 x))))
+
+mutual
+  pub named-count : (x : Items) (ℓ m p : ℕ) → length (namedOf ℓ m p x) ≡ allLabels x
+  named-count done ℓ m p = refl
+  named-count (label t x) ℓ m p = ap suc (named-count x ℓ m p)
+  named-count (action n os bs x) ℓ m p =
+      simp length-append (omega (arith, named-counts bs m, named-count x ℓ (m + length (openedIn 0 0 bs)) (suc p)))
+
+  named-counts : (bs : Blocks) (m : ℕ) → length (namedIn m bs) ≡ labelsInside bs
+  named-counts no-blocks m = refl
+  named-counts (block p x bs) m =
+      simp length-append (omega (arith, named-count x m (suc m) 0, named-counts bs (suc m + length (openedOf 0 x))))
 
 -- ---- operands before a block, and behind it
 

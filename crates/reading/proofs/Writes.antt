@@ -1,259 +1,245 @@
 -- What the events of a tree write into the lent tables. Assumes nothing.
-use mathlib.Core.Path.{_≡_, refl, sym, ap, subst, _∙_}
+use mathlib.Core.Path.{_≡_, refl, sym, ap, _∙_}
 use mathlib.Core.Bool.{Bool, false, cond}
-use mathlib.Core.List.{List, [], _∷_, _++_, map, map-map, append-assoc}
-use mathlib.Core.Option.{Option, some, none}
-use Prim.Native.Nat.{ℕ, zero, suc, _+_, _-_, _*_, _/_, _%_, _≤_, _<_}
+use mathlib.Core.List.{List, [], _∷_, _++_, map, map-map, map-append}
+use Prim.Native.Nat.{ℕ, suc, _+_, _-_, _≤_, _<_}
 use native.Mathlib.Omega.{arith}
 use native.Mathlib.Numerals.{add-one}
-use lib.IntN.{ℤ, pos, negsuc}
 use lib.ListN.{length, getD, set, length-append, length-map, length-set}
 use lib.Seq.{sets, set-set, set-getD, getD-set-same, length-sets}
 use borrow.Author.Tests.{lt-ltb, le-ltb}
 use Rattle.names.specs.declared.ActionName.{ActionName}
-use Rattle.actions.specs.Numbers.{actionAt, numberOf}
+use Rattle.actions.specs.Numbers.{numberOf}
 use Rattle.actions.proofs.Numbers.{number-below, action-number}
+use Rattle.events.specs.Log.{Holdable, logWord, byKind}
+use Rattle.events.proofs.Words.{event-is}
 use Rattle.tokens.specs.declared.TokenKind.{TokenKind}
 use Rattle.tokens.specs.Tokens.{tokenOf, rawText}
-use Rattle.entries.specs.declared.Held.{Held}
-use Rattle.entries.specs.declared.Net.{Net}
-use Rattle.entries.specs.declared.Net.the-variants as N
-use Rattle.entries.specs.Entries.{blockNumber, netNumber, netOf}
-use Rattle.entries.specs.Fields.{actionFields, actionLevel, operandFields, levelFields, heldIn}
+use Rattle.entries.specs.declared.Action as D
+use Rattle.entries.specs.declared.Level.{Level}
+use Rattle.entries.specs.Entries.{actionWord, actionOf, operandOf, partOf, blockNumber, levelWord}
+use Rattle.entries.specs.Levels.{fresh, withAction, ownerOf, levelAt, Small}
+use Rattle.entries.proofs.Words.{action-back, operand-back}
+use Rattle.entries.proofs.Levels.{part-number, part-owner, read-back}
 use Rattle.pcode.specs.Deltas.{deltaOf}
-use Rattle.nets.specs.Nets.{isEmpty, firstIsEmpty, movedBy, nextNet}
-use Rattle.nets.proofs.Numbers.{InReach, net-back, net-small}
-use Rattle.nets.proofs.Bounds.{Bounded, NearIf, delta-near, moved-bounded, in-reach}
-use Rattle.nets.proofs.Turns.{above}
-use Rattle.nets.proofs.Next.{next-is}
-use Rattle.grammar.specs.Operands.{Lexeme, lexeme, placeOf, raw}
-use Rattle.grammar.specs.Grammar.{Part, body, try, catch, finally, Items, done, label, action, Blocks, no-blocks, block}
-use Rattle.grammar.specs.Reading.{Acted, Opened, ownActions, allActions, actionsInside, openedOf, openedIn, actedOf, actedIn, operandsFrom}
-use Rattle.grammar.specs.Reading as R
-use Rattle.grammar.specs.Nets.{nameIsEmpty, netFrom}
-use Rattle.grammar.proofs.Events.{Event, leading, waiting}
-use Rattle.grammar.proofs.Events as E
-use Rattle.grammar.proofs.Unique.{events, block-events, givens}
-use Rattle.operands.specs.Log.{partNumber, logWord, eventWord}
-use Rattle.writing.specs.declared.Writer.{Writer}
-use Rattle.writing.specs.Writing.{gather, Written, written, movedLevel, givenIn as givenInto, acted, opening, openedIn as openedInto, opened, ownerIn, closing, closed, by, step, steps}
+use Rattle.nets.specs.Nets.{isEmpty, firstIsEmpty, movedBy}
+use Rattle.nets.proofs.Bounds.{Bounded, bounded-small}
+use Rattle.lexemes.specs.Lexemes.{Lexeme, lexeme, placeOf, raw}
+use Rattle.lexemes.specs.Events.{Part, body, try, catch, finally, Event}
+use Rattle.lexemes.specs.Events as E
+use Rattle.grammar.specs.Grammar.{Items, done, label, action, Blocks, no-blocks, block}
+use Rattle.grammar.specs.Reading.{Acted, ownActions, allActions, actionsInside, openedOf, openedIn, actedOf, actedIn, operandsFrom}
+use Rattle.grammar.specs.Nets.{nameIsEmpty}
+use Rattle.grammar.specs.Trees.{leading, waiting, events, block-events, givens}
+use Rattle.operands.specs.Log.{partNumber, eventWord}
+use Rattle.writing.specs.Writing.{gather, given, Written, written, movedLevel, givenIn as givenInto, acted, opened, ownerIn, closed, by, step, steps}
 use Rattle.reading.specs.Trees.{All, AllOf, AllIn, IsLow}
-use Rattle.reading.specs.Tables.{blockOf, netEntry, operandEntryWord}
+use Rattle.reading.specs.Tables.{partOf as partEntry, operandEntryWord}
 use Rattle.reading.specs.Told.{Of}
-use Rattle.reading.proofs.Trees.{lastOf, opened-count, opened-counts, acted-count, acted-counts, map-append, part-below, low-leading, low-waiting}
+use Rattle.reading.proofs.Trees.{lastOf, opened-count, opened-counts, acted-count, acted-counts, part-below, low-leading, low-waiting}
 use Rattle.reading.proofs.Nets.{runFrom, run-done, run-label, run-action}
 use Rattle.reading.proofs.Places.{weaker, weaker-of, weaker-in}
 use Rattle.reading.proofs.Groups.{own-few}
-use Rattle.reading.proofs.Entries.{block-number}
 use Rattle.reading.proofs.Sets.{joined, getD-before, getD-first, set-before}
-use Rattle.reading.proofs.Gathered.{words, kind-is, holds-is, Stops, stops-closed, stops-items, gathered}
+use Rattle.reading.proofs.Gathered.{words, Stops, stops-closed, stops-items, gathered}
+use Rattle.reading.proofs.Words.{of, ops, actWord, actWords, opWords, levelFinal, ops-append, act-append, act-length, op-append, op-length, widens, moves-near, run-near}
 
--- ---- the words of actions, operands and levels
+-- ---- where the writer stands
 
-abbrev pub of : ℕ → Lexeme → R.Operand
-of a t = record { action = a; token = t }
+-- the tables, and how many actions, operands and levels they have
+pub record Point : Type 0 where
+  pub actions : List ℕ
+  pub operands : List ℕ
+  pub levels : List ℕ
+  pub a : ℕ
+  pub q : ℕ
+  pub m : ℕ
 
--- how many operands actions have
-abbrev pub ops : List Acted → ℕ
-ops [] = 0
-ops (l ∷ ls) = length (l .operands) + ops ls
+-- in level ℓ, behind action g
+abbrev pub at : Point → ℕ → ℕ → Written
+at P ℓ g = written (P .actions) (P .operands) (P .levels) (record { level = ℓ; action = g; actions = P .a; operands = P .q; levels = P .m })
 
--- actions whose operands stand from q on
-abbrev pub actWords : ℕ → List Acted → List ℕ
-actWords q [] = []
-actWords q (l ∷ ls) = actionFields (numberOf (l .name)) (l .level) q (length (l .operands)) ∷ actWords (q + length (l .operands)) ls
+-- level ℓ is open, and is v so far
+pub record In (P : Point) (ℓ : ℕ) (v : Level) : Type 0 where
+  pub inside : ℓ < P .m
+  pub here : getD (P .levels) ℓ 0 ≡ levelWord v
+  pub block : Small (blockNumber (v .block))
+  pub count : v .actions ≤ P .a
+  pub near : Bounded (P .a) (P .q) (v .net)
 
-abbrev pub opWords : ℕ → List Acted → List ℕ
-opWords a ls = map operandEntryWord (operandsFrom a ls)
+-- the blocks of action o of level ℓ come next
+pub record Before (P : Point) (ℓ o : ℕ) : Type 0 where
+  pub above : o < P .a
+  pub owned : actionOf (getD (P .actions) o 0) .level ≡ ℓ
 
-abbrev pub levelFinal : Opened → ℕ
-levelFinal l = levelFields (blockNumber (blockOf (l .owner))) (ownActions (l .items)) (netNumber (netEntry (netFrom (l .first) (pos 0) (l .items))))
+-- room for x actions, y operands and z levels more
+pub record Room (P : Point) (x y z : ℕ) : Type 0 where
+  pub actions : P .a + x ≤ length (P .actions)
+  pub operands : P .q + y ≤ length (P .operands)
+  pub levels : P .m + z ≤ length (P .levels)
+  pub few-actions : P .a + x ≤ 65536
+  pub few-operands : P .q + y ≤ 65536
+  pub few-levels : P .m + z ≤ 65537
 
-pub ops-append : (l r : List Acted) → ops (l ++ r) ≡ ops l + ops r
-ops-append [] r = omega arith
-ops-append (y ∷ l) r = omega (arith, ops-append l r)
+abbrev pub RoomOf : Point → ℕ → Items → Type 0
+RoomOf P ℓ x = Room P (allActions x) (ops (actedOf ℓ (P .m) x)) (length (openedOf 0 x))
 
-act-append : (l r : List Acted) (q : ℕ) → actWords q (l ++ r) ≡ actWords q l ++ actWords (q + ops l) r
-act-append [] r q = let z : q ≡ q + 0 = omega arith in ap (λ k. actWords k r) z
-act-append (y ∷ l) r q =
-    let z : q + length (y .operands) + ops l ≡ q + (length (y .operands) + ops l) = omega arith in
-    λ i. actionFields (numberOf (y .name)) (y .level) q (length (y .operands)) ∷ (act-append l r (q + length (y .operands)) ∙ ap (λ k. actWords (q + length (y .operands)) l ++ actWords k r) z) i
+abbrev RoomIn : Point → Blocks → Type 0
+RoomIn P bs = Room P (actionsInside bs) (ops (actedIn (P .m) bs)) (length (openedIn 0 0 bs))
 
-pub act-length : (l : List Acted) (q : ℕ) → length (actWords q l) ≡ length l
-act-length [] q = refl
-act-length (y ∷ l) q = ap suc (act-length l (q + length (y .operands)))
+-- ---- where it stands then
 
-from-append : (l r : List Acted) (a : ℕ) → operandsFrom a (l ++ r) ≡ operandsFrom a l ++ operandsFrom (a + length l) r
-from-append [] r a = let z : a ≡ a + 0 = omega arith in ap (λ k. operandsFrom k r) z
-from-append (y ∷ l) r a =
-    let z : suc a + length l ≡ a + suc (length l) = omega arith in
-    let m = map (of a) (y .operands) in
-    ap (λ k. m ++ k) (from-append l r (suc a) ∙ ap (λ k. operandsFrom (suc a) l ++ operandsFrom k r) z)
-    ∙ sym (append-assoc m (operandsFrom (suc a) l) (operandsFrom (a + suc (length l)) r))
+abbrev acts : Point → ℕ → Level → ActionName → List Lexeme → Point
+acts P ℓ v n os =
+    record {
+      actions = set (P .actions) (P .a) (actWord (P .q) (record { name = n; level = ℓ; operands = os }));
+      operands = sets (P .operands) (P .q) (map operandEntryWord (map (of (P .a)) os));
+      levels = set (P .levels) ℓ (levelWord (withAction (movedBy (deltaOf n (length os) (nameIsEmpty os)) (P .a) (v .net)) v));
+      a = suc (P .a);
+      q = P .q + length os;
+      m = P .m;
+    }
 
-op-append : (l r : List Acted) (a : ℕ) → opWords a (l ++ r) ≡ opWords a l ++ opWords (a + length l) r
-op-append l r a = ap (map operandEntryWord) (from-append l r a) ∙ map-append operandEntryWord (operandsFrom a l) (operandsFrom (a + length l) r)
+abbrev opens : Point → Part → ℕ → Point
+opens P p o =
+    record {
+      actions = P .actions;
+      operands = P .operands;
+      levels = set (P .levels) (P .m) (levelWord (fresh (partOf (partNumber p) o)));
+      a = P .a;
+      q = P .q;
+      m = suc (P .m);
+    }
 
-pub op-length : (l : List Acted) (a : ℕ) → length (opWords a l) ≡ ops l
-op-length [] a = refl
-op-length (y ∷ l) a =
-    let m = map (of a) (y .operands) in
-    ap length (map-append operandEntryWord m (operandsFrom (suc a) l))
-    ∙ length-append (map operandEntryWord m) (opWords (suc a) l)
-    ∙ omega (arith, length-map m operandEntryWord, length-map (y .operands) (of a), op-length l (suc a))
+-- a level behind the items x, of which the first action is a
+abbrev pub levelAfter : Level → ℕ → Items → Level
+levelAfter v a x = record { block = v .block; actions = v .actions + ownActions x; net = runFrom a (v .net) x }
 
--- ---- how far a net goes
+abbrev pub behind : Point → ℕ → Level → Items → Point
+behind P ℓ v x =
+    record {
+      actions = sets (P .actions) (P .a) (actWords (P .q) (actedOf ℓ (P .m) x));
+      operands = sets (P .operands) (P .q) (opWords (P .a) (actedOf ℓ (P .m) x));
+      levels = sets (set (P .levels) ℓ (levelWord (levelAfter v (P .a) x))) (P .m) (map levelFinal (openedOf (P .a) x));
+      a = P .a + allActions x;
+      q = P .q + ops (actedOf ℓ (P .m) x);
+      m = P .m + length (openedOf 0 x);
+    }
 
-widens : (i s j r : ℕ) (t : Net) → i ≤ j → s ≤ r → Bounded i s t → Bounded j r t
-widens i s j r (N.Height (pos h)) k l b = omega arith
-widens i s j r (N.Height (negsuc h)) k l b = omega arith
-widens i s j r (N.Undetermined a) k l b = omega arith
-
-moves-near : (n : ActionName) (os : List Lexeme) (a q : ℕ) (t : Net) → Bounded a q t
-    → Bounded (suc a) (q + length os) (movedBy (deltaOf n (length os) (nameIsEmpty os)) a t)
-moves-near n os a q t b =
-    let z : length os ≡ q + length os - q = omega arith in
-    moved-bounded a q (q + length os) (deltaOf n (length os) (nameIsEmpty os)) t (omega arith) b
-    (subst (λ v. NearIf v (deltaOf n (length os) (nameIsEmpty os))) z (delta-near n (length os) (nameIsEmpty os)))
-
-run-near : (x : Items) (ℓ m a q : ℕ) (t : Net) → Bounded a q t → Bounded (a + allActions x) (q + ops (actedOf ℓ m x)) (runFrom a t x)
-run-near done ℓ m a q t b = subst (Bounded (a + 0) (q + 0)) (sym (run-done a t)) (widens a q (a + 0) (q + 0) t (omega arith) (omega arith) b)
-run-near (label n x) ℓ m a q t b =
-    subst (Bounded (a + allActions x) (q + ops (actedOf ℓ m x))) (sym (run-label a t n x)) (run-near x ℓ m a q t b)
-run-near (action n os bs x) ℓ m a q t b =
-    let l : Acted = record { name = n; level = ℓ; operands = os } in
-    let u = movedBy (deltaOf n (length os) (nameIsEmpty os)) a t in
-    let a′ = suc a + actionsInside bs in
-    let m′ = m + length (openedIn 0 0 bs) in
-    let q′ = q + length os + ops (actedIn m bs) in
-    let r = run-near x ℓ m′ a′ q′ u (widens (suc a) (q + length os) a′ q′ u (omega arith) (omega arith) (moves-near n os a q t b)) in
-    subst (Bounded (a + suc (actionsInside bs + allActions x)) (q + (length os + ops (actedIn m bs ++ actedOf ℓ m′ x)))) (sym (run-action a t l bs x))
-    (widens (a′ + allActions x) (q′ + ops (actedOf ℓ m′ x)) _ _ (runFrom a′ u x) (omega arith) (omega (arith, ops-append (actedIn m bs) (actedOf ℓ m′ x))) r)
-
--- ---- one event
-
--- a writer in level ℓ behind action g, with a actions, q operands and m levels
-abbrev pub standing : ℕ → ℕ → ℕ → ℕ → ℕ → Writer
-standing ℓ g a q m = record { level = ℓ; action = g; actions = a; operands = q; levels = m }
+abbrev behindIn : Point → ℕ → Blocks → Point
+behindIn P o bs =
+    record {
+      actions = sets (P .actions) (P .a) (actWords (P .q) (actedIn (P .m) bs));
+      operands = sets (P .operands) (P .q) (opWords (P .a) (actedIn (P .m) bs));
+      levels = sets (P .levels) (P .m) (map levelFinal (openedIn o (P .a) bs));
+      a = P .a + actionsInside bs;
+      q = P .q + ops (actedIn (P .m) bs);
+      m = P .m + length (openedIn 0 0 bs);
+    }
 
 empty-name : (i : ℕ) (k : TokenKind) (w : List ℕ) (os : List Lexeme) → isEmpty w ≡ nameIsEmpty (lexeme i k w ∷ os)
 empty-name i k [] os = refl
 empty-name i k (b ∷ w) os = refl
 
-held : (b p n : ℕ) → b < 1048576 → p < 1048576 → n < 1048576 → heldIn (levelFields b p n) ≡ record { block = b; actions = p; net = n }
-held b p n h k l =
-    let e : levelFields b p n / 1099511627776 % 1048576 ≡ b = omega arith in
-    let f : levelFields b p n / 1048576 % 1048576 ≡ p = omega arith in
-    let g : levelFields b p n % 1048576 ≡ n = omega arith in
-    λ j. record { block = e j; actions = f j; net = g j }
+-- a block by its number, and by its part
+part-entry : (p : Part) (o : ℕ) → partOf (partNumber p) o ≡ partEntry p o
+part-entry body o = refl
+part-entry try o = refl
+part-entry catch o = refl
+part-entry finally o = refl
 
 module _ (text s : List ℕ) (few : length s ≤ 65536) where
   abbrev run : List Event → Written → Written
   run k T = steps text s (words k) T
 
-  decoded : (k v : ℕ) (l : List ℕ) (T : Written) → v < 1048576 → step text s (logWord k v) l T ≡ by text s k v l T
+  decoded : (k v : ℕ) (l : List ℕ) (T : Written) → Holdable v → step text s (logWord k v) l T ≡ by text s (byKind k v) l T
   unfolding step
-  decoded k v l T h = λ j. by text s (kind-is k v h j) (holds-is k v h j) l T
+  decoded k v l T h = ap (λ e. by text s e l T) (event-is k v h)
 
   -- operands are written with their action
   gave : (os : List Lexeme) (k : List Event) (T : Written) → All IsLow os → run (givens os k) T ≡ run k T
   gave [] k T h = refl
   gave (t ∷ os) k T h = ap (run (givens os k)) (decoded 2 (placeOf t) (words (givens os k)) T (h .0)) ∙ gave os k T (h .1)
 
+  -- ---- one event
+
   -- whether a function's name is empty, told of the first operand's word
   first-empty : (O : List ℕ) (q a : ℕ) (os : List Lexeme) → All (Of text s) os → q + length os ≤ length O
       → firstIsEmpty text s (sets O q (map operandEntryWord (map (of a) os))) q (q + length os) ≡ nameIsEmpty os
   unfolding firstIsEmpty
   first-empty O q a [] k r =
-      ap (λ (b : Bool). cond b (isEmpty (rawText text (tokenOf (getD s (getD O q 0 % 1099511627776) 0)))) false) (le-ltb q (q + 0) (omega arith))
+      ap (λ (b : Bool). cond b (isEmpty (rawText text (tokenOf (getD s (operandOf (getD O q 0) .token) 0)))) false) (le-ltb q (q + 0) (omega arith))
   first-empty O q a (lexeme p c w ∷ l) k r =
       let u = map operandEntryWord (map (of a) l) in
-      let v = a * 1099511627776 + p in
-      let first : getD (sets O q (v ∷ u)) q 0 ≡ v = getD-first u O q v (omega arith) in
-      let token : getD (sets O q (v ∷ u)) q 0 % 1099511627776 ≡ p = omega (arith, first, k .0 .0, few) in
+      let v = given a p in
       let e : ℕ → Bool = λ i. isEmpty (rawText text (tokenOf (getD s i 0))) in
-      ap (λ (b : Bool). cond b (e (getD (sets O q (v ∷ u)) q 0 % 1099511627776)) false) (lt-ltb q (q + suc (length l)) (omega arith))
+      let token : operandOf (getD (sets O q (v ∷ u)) q 0) .token ≡ p =
+      ap (λ i. operandOf i .token) (getD-first u O q v (omega arith)) ∙ ap (λ o. o .token) (operand-back (record { action = a; token = p }) (omega (arith, k .0 .0, few)))
+      in
+      ap (λ (b : Bool). cond b (e (operandOf (getD (sets O q (v ∷ u)) q 0) .token)) false) (lt-ltb q (q + suc (length l)) (omega arith))
       ∙ ap e token
       ∙ sym (ap (λ (t : Lexeme). isEmpty (raw t)) (k .0 .1))
       ∙ empty-name p c w l
 
-  -- where the writer stands in level ℓ, whose word has block b, p actions and the net t
-  pub record At (L : List ℕ) (ℓ a q m b p : ℕ) (t : Net) : Type 0 where
-    pub inside : ℓ < m
-    pub here : getD L ℓ 0 ≡ levelFields b p (netNumber t)
-    pub block : b < 1048576
-    pub count : p ≤ a
-    pub near : Bounded a q t
-
-  -- room for x actions, y operands and z levels more
-  pub record Room (A O L : List ℕ) (a x q y m z : ℕ) : Type 0 where
-    pub actions : a + x ≤ length A
-    pub operands : q + y ≤ length O
-    pub levels : m + z ≤ length L
-    pub few-actions : a + x ≤ 65536
-    pub few-operands : q + y ≤ 65536
-    pub few-levels : m + z ≤ 65537
-
-  module _ (A O L : List ℕ) (ℓ g a q m b p : ℕ) (t : Net) (n : ActionName) (os : List Lexeme) (rest : List ℕ) (at : At L ℓ a q m b p t)
-      (told : gather 0 rest ≡ map placeOf os) (known : All (Of text s) os) (fa : a < 65536) (fq : q + length os ≤ 65536) (ro : q + length os ≤ length O) where
-    abbrev delta : Option ℤ
-    delta = deltaOf n (length os) (nameIsEmpty os)
-
+  module _ (P : Point) (ℓ g : ℕ) (v : Level) (is : In P ℓ v) (n : ActionName) (os : List Lexeme) (rest : List ℕ)
+      (told : gather 0 rest ≡ map placeOf os) (known : All (Of text s) os) (fa : P .a < 65536) (fq : P .q + length os ≤ 65536) (ro : P .q + length os ≤ length (P .operands)) where
     counted : length (gather 0 rest) ≡ length os
     counted = ap length told ∙ length-map os placeOf
 
-    operands-told : givenInto a (gather 0 rest) O q ≡ sets O q (map operandEntryWord (map (of a) os))
+    operands-told : givenInto (P .a) (gather 0 rest) (P .operands) (P .q) ≡ acts P ℓ v n os .operands
     unfolding givenInto
     operands-told =
-        ap (λ l. sets O q (map (operandFields a) l)) told
-        ∙ ap (sets O q) (map-map (operandFields a) placeOf os ∙ sym (map-map operandEntryWord (of a) os))
+        ap (λ l. sets (P .operands) (P .q) (map (given (P .a)) l)) told
+        ∙ ap (sets (P .operands) (P .q)) (map-map (given (P .a)) placeOf os ∙ sym (map-map operandEntryWord (of (P .a)) os))
 
-    net-told : nextNet (netNumber t) a delta ≡ netNumber (movedBy delta a t)
-    net-told =
-        sym (next-is (netNumber t) a delta (above a q t fa (at .near)))
-        ∙ ap (λ u. netNumber (movedBy delta a u)) (net-back t (in-reach a q t (omega arith) (omega arith) (at .near)))
+    level-here : levelAt (P .levels) ℓ ≡ v
+    level-here =
+        read-back (P .levels) ℓ v (is .here) (is .block) (omega (arith, is .count)) (bounded-small (P .a) (P .q) (v .net) (omega arith) (omega arith) (is .near))
 
-    held-here : heldIn (getD L ℓ 0) ≡ record { block = b; actions = p; net = netNumber t }
-    held-here =
-        ap heldIn (at .here)
-        ∙ held b p (netNumber t) (at .block) (omega (arith, at .count)) (net-small t (in-reach a q t (omega arith) (omega arith) (at .near)))
-
-    level-told : movedLevel text s (sets O q (map operandEntryWord (map (of a) os))) q (q + length os) (numberOf n) a ℓ L
-        ≡ set L ℓ (levelFields b (suc p) (netNumber (movedBy delta a t)))
+    level-told : movedLevel text s (acts P ℓ v n os .operands) (P .q) (P .q + length os) n (P .a) ℓ (P .levels) ≡ acts P ℓ v n os .levels
     unfolding movedLevel
     level-told =
-        let e : q + length os - q ≡ length os = omega arith in
-        (λ j. set L ℓ (levelFields (held-here j .block) (held-here j .actions + 1)
-        (nextNet (held-here j .net) a (deltaOf (action-number n j) (e j) (first-empty O q a os known ro j)))))
-        ∙ (λ j. set L ℓ (levelFields b (add-one p j) (net-told j)))
+        let e : P .q + length os - P .q ≡ length os = omega arith in
+        λ j. set (P .levels) ℓ
+        (levelWord (withAction (movedBy (deltaOf n (e j) (first-empty (P .operands) (P .q) (P .a) os known ro j)) (P .a) (level-here j .net)) (level-here j)))
 
-    acted-step : step text s (logWord 0 (numberOf n)) rest (written A O L (standing ℓ g a q m))
-        ≡ written (set A a (actionFields (numberOf n) ℓ q (length os))) (sets O q (map operandEntryWord (map (of a) os)))
-        (set L ℓ (levelFields b (suc p) (netNumber (movedBy delta a t)))) (standing ℓ a (suc a) (q + length os) m)
+    acted-step : step text s (logWord 0 (numberOf n)) rest (at P ℓ g) ≡ at (acts P ℓ v n os) ℓ (P .a)
     unfolding written acted
     acted-step =
-        decoded 0 (numberOf n) rest (written A O L (standing ℓ g a q m)) (omega (arith, number-below n))
+        decoded 0 (numberOf n) rest (at P ℓ g) (omega (arith, number-below n))
+        ∙ ap (λ x. acted text s x rest (at P ℓ g)) (action-number n)
         ∙ (λ j. record {
-          actions = set A a (actionFields (numberOf n) ℓ q (counted j));
+          actions = set (P .actions) (P .a) (actWord′ (counted j));
           operands = operands-told j;
-          levels = ((λ i. movedLevel text s (operands-told i) q (q + counted i) (numberOf n) a ℓ L) ∙ level-told) j;
-          at = standing ℓ a (add-one a j) (q + counted j) m;
+          levels = ((λ i. movedLevel text s (operands-told i) (P .q) (P .q + counted i) n (P .a) ℓ (P .levels)) ∙ level-told) j;
+          at = record { level = ℓ; action = P .a; actions = add-one (P .a) j; operands = P .q + counted j; levels = P .m };
         })
+      where
+        actWord′ : ℕ → ℕ
+        actWord′ k = actionWord (record { name = n; level = ℓ; first = P .q; count = k })
 
-  opened-step : (A O L : List ℕ) (ℓ o a q m : ℕ) (p : Part) (rest : List ℕ)
-      → step text s (eventWord (E.opened p)) rest (written A O L (standing ℓ o a q m))
-      ≡ written A O (set L m (levelFields (o * 4 + partNumber p + 1) 0 196608)) (standing m o a q (suc m))
+  opened-step : (P : Point) (ℓ o : ℕ) (p : Part) (rest : List ℕ) → step text s (eventWord (E.opened p)) rest (at P ℓ o) ≡ at (opens P p o) (P .m) o
   unfolding written opened
-  opened-step A O L ℓ o a q m p rest =
-      decoded 3 (partNumber p) rest (written A O L (standing ℓ o a q m)) (omega (arith, part-below p))
-      ∙ (λ j. record { actions = A; operands = O; levels = set L m (levelFields (o * 4 + partNumber p + 1) 0 196608); at = standing m o a q (add-one m j) })
+  opened-step P ℓ o p rest =
+      decoded 3 (partNumber p) rest (at P ℓ o) (omega (arith, part-below p))
+      ∙ (λ j. record {
+        actions = P .actions;
+        operands = P .operands;
+        levels = opens P p o .levels;
+        at = record { level = P .m; action = o; actions = P .a; operands = P .q; levels = add-one (P .m) j };
+      })
 
-  closed-step : (A O L : List ℕ) (ℓ o m g a q m′ : ℕ) (rest : List ℕ) → ownerIn L m ≡ o → actionLevel (getD A o 0) ≡ ℓ
-      → step text s (eventWord E.closed) rest (written A O L (standing m g a q m′)) ≡ written A O L (standing ℓ o a q m′)
+  closed-step : (P : Point) (ℓ o m g : ℕ) (rest : List ℕ) → ownerIn (P .levels) m ≡ o → actionOf (getD (P .actions) o 0) .level ≡ ℓ
+      → step text s (eventWord E.closed) rest (at P m g) ≡ at P ℓ o
   unfolding written closed
-  closed-step A O L ℓ o m g a q m′ rest e f =
-      decoded 4 0 rest (written A O L (standing m g a q m′)) (omega arith)
-      ∙ (λ j. record { actions = A; operands = O; levels = L; at = standing ((ap (λ k. actionLevel (getD A k 0)) e ∙ f) j) (e j) a q m′ })
+  closed-step P ℓ o m g rest e f =
+      decoded 4 0 rest (at P m g) (omega arith)
+      ∙ (λ j. record {
+        actions = P .actions;
+        operands = P .operands;
+        levels = P .levels;
+        at = record { level = (ap (λ k. actionOf (getD (P .actions) k 0) .level) e ∙ f) j; action = e j; actions = P .a; operands = P .q; levels = P .m };
+      })
 
   -- ---- the events of a tree
 
@@ -266,266 +252,228 @@ module _ (text s : List ℕ) (few : length s ≤ 65536) where
   low-list : (os : List Lexeme) → All (Of text s) os → All IsLow os
   low-list os h = weaker (λ u o. omega (arith, o .0, few)) os h
 
-  -- the level's word behind its items, and the tables
-  abbrev pub levelAfter : ℕ → ℕ → ℕ → Net → Items → ℕ
-  levelAfter b p a t x = levelFields b (p + ownActions x) (netNumber (runFrom a t x))
-
-  abbrev pub after : (A O L : List ℕ) (ℓ g a q m b p : ℕ) (t : Net) → Items → Written
-  after A O L ℓ g a q m b p t x =
-      written (sets A a (actWords q (actedOf ℓ m x))) (sets O q (opWords a (actedOf ℓ m x)))
-      (sets (set L ℓ (levelAfter b p a t x)) m (map levelFinal (openedOf a x)))
-      (standing ℓ (lastOf g a x) (a + allActions x) (q + ops (actedOf ℓ m x)) (m + length (openedOf 0 x)))
-
-  abbrev afterIn : (A O L : List ℕ) (ℓ o a q m : ℕ) → Blocks → Written
-  afterIn A O L ℓ o a q m bs =
-      written (sets A a (actWords q (actedIn m bs))) (sets O q (opWords a (actedIn m bs))) (sets L m (map levelFinal (openedIn o a bs)))
-      (standing ℓ o (a + actionsInside bs) (q + ops (actedIn m bs)) (m + length (openedIn 0 0 bs)))
-
-  -- before the blocks of action o
-  pub record AtIn (A : List ℕ) (ℓ o a : ℕ) : Type 0 where
-    pub above : o < a
-    pub owned : actionLevel (getD A o 0) ≡ ℓ
-
-  stay : (A O L : List ℕ) (ℓ g a q m b p : ℕ) (t : Net) → At L ℓ a q m b p t → written A O L (standing ℓ g a q m) ≡ after A O L ℓ g a q m b p t done
-  stay A O L ℓ g a q m b p t at =
-      let zp : p + 0 ≡ p = omega arith in
-      let za : a ≡ a + 0 = omega arith in
-      let zq : q ≡ q + 0 = omega arith in
-      let zm : m ≡ m + 0 = omega arith in
-      let e : set L ℓ (levelAfter b p a t done) ≡ L =
-      (λ j. set L ℓ (levelFields b (zp j) (netNumber (run-done a t j)))) ∙ ap (set L ℓ) (sym (at .here)) ∙ set-getD L ℓ 0
+  stay : (P : Point) (ℓ : ℕ) (v : Level) → In P ℓ v → P ≡ behind P ℓ v done
+  stay P ℓ v is =
+      let zp : v .actions + 0 ≡ v .actions = omega arith in
+      let za : P .a ≡ P .a + 0 = omega arith in
+      let zq : P .q ≡ P .q + 0 = omega arith in
+      let zm : P .m ≡ P .m + 0 = omega arith in
+      let e : set (P .levels) ℓ (levelWord (levelAfter v (P .a) done)) ≡ P .levels =
+      (λ j. set (P .levels) ℓ (levelWord (record { block = v .block; actions = zp j; net = run-done (P .a) (v .net) j })))
+      ∙ ap (set (P .levels) ℓ) (sym (is .here))
+      ∙ set-getD (P .levels) ℓ 0
       in
-      λ j. written A O (sym e j) (standing ℓ g (za j) (zq j) (zm j))
+      λ j. record { actions = P .actions; operands = P .operands; levels = sym e j; a = za j; q = zq j; m = zm j }
 
-  no-more : (A O L : List ℕ) (ℓ o a q m : ℕ) → written A O L (standing ℓ o a q m) ≡ afterIn A O L ℓ o a q m no-blocks
-  no-more A O L ℓ o a q m =
-      let za : a ≡ a + 0 = omega arith in
-      let zq : q ≡ q + 0 = omega arith in
-      let zm : m ≡ m + 0 = omega arith in
-      λ j. written A O L (standing ℓ o (za j) (zq j) (zm j))
+  no-more : (P : Point) (o : ℕ) → P ≡ behindIn P o no-blocks
+  no-more P o =
+      let za : P .a ≡ P .a + 0 = omega arith in
+      let zq : P .q ≡ P .q + 0 = omega arith in
+      let zm : P .m ≡ P .m + 0 = omega arith in
+      λ j. record { actions = P .actions; operands = P .operands; levels = P .levels; a = za j; q = zq j; m = zm j }
+
+  -- a label writes nothing
+  passed : (P : Point) (ℓ : ℕ) (v : Level) (t : Lexeme) (x : Items) → behind P ℓ v x ≡ behind P ℓ v (label t x)
+  passed P ℓ v t x =
+      λ j. record {
+        actions = behind P ℓ v x .actions;
+        operands = behind P ℓ v x .operands;
+        levels =
+            sets (set (P .levels) ℓ (levelWord (record { block = v .block; actions = v .actions + ownActions x; net = sym (run-label (P .a) (v .net) t x) j }))) (P .m)
+            (map levelFinal (openedOf (P .a) x));
+        a = behind P ℓ v x .a;
+        q = behind P ℓ v x .q;
+        m = behind P ℓ v x .m;
+      }
 
   -- an action, its blocks and the rest of its level
-  module _ (A O L : List ℕ) (ℓ g a q m b p : ℕ) (t : Net) (at : At L ℓ a q m b p t) (n : ActionName) (os : List Lexeme) (bs : Blocks) (x : Items)
-      (room : Room A O L a (allActions (action n os bs x)) q (ops (actedOf ℓ m (action n os bs x))) m (length (openedOf 0 (action n os bs x)))) where
+  module _ (P : Point) (ℓ : ℕ) (v : Level) (is : In P ℓ v) (n : ActionName) (os : List Lexeme) (bs : Blocks) (x : Items) (room : RoomOf P ℓ (action n os bs x)) where
     abbrev l : Acted
     l = record { name = n; level = ℓ; operands = os }
 
-    abbrev u : Net
-    u = movedBy (deltaOf n (length os) (nameIsEmpty os)) a t
+    abbrev u : Level
+    u = withAction (movedBy (deltaOf n (length os) (nameIsEmpty os)) (P .a) (v .net)) v
 
-    abbrev A₁ : List ℕ
-    A₁ = set A a (actionFields (numberOf n) ℓ q (length os))
+    abbrev P₁ : Point
+    P₁ = acts P ℓ v n os
 
-    abbrev O₁ : List ℕ
-    O₁ = sets O q (map operandEntryWord (map (of a) os))
+    abbrev P₂ : Point
+    P₂ = behindIn P₁ (P .a) bs
 
-    abbrev L₁ : List ℕ
-    L₁ = set L ℓ (levelFields b (suc p) (netNumber u))
-
-    abbrev q₁ : ℕ
-    q₁ = q + length os
-
-    abbrev a₂ : ℕ
-    a₂ = suc a + actionsInside bs
-
-    abbrev q₂ : ℕ
-    q₂ = q₁ + ops (actedIn m bs)
-
-    abbrev m₂ : ℕ
-    m₂ = m + length (openedIn 0 0 bs)
-
-    abbrev A₂ : List ℕ
-    A₂ = sets A₁ (suc a) (actWords q₁ (actedIn m bs))
-
-    abbrev O₂ : List ℕ
-    O₂ = sets O₁ q₁ (opWords (suc a) (actedIn m bs))
-
-    abbrev L₂ : List ℕ
-    L₂ = sets L₁ m (map levelFinal (openedIn a (suc a) bs))
-
-    all-ops : ops (actedIn m bs ++ actedOf ℓ m₂ x) ≡ ops (actedIn m bs) + ops (actedOf ℓ m₂ x)
-    all-ops = ops-append (actedIn m bs) (actedOf ℓ m₂ x)
+    all-ops : ops (actedIn (P .m) bs ++ actedOf ℓ (P₂ .m) x) ≡ ops (actedIn (P .m) bs) + ops (actedOf ℓ (P₂ .m) x)
+    all-ops = ops-append (actedIn (P .m) bs) (actedOf ℓ (P₂ .m) x)
 
     all-levels : length (openedIn 0 1 bs ++ openedOf (1 + actionsInside bs) x) ≡ length (openedIn 0 0 bs) + length (openedOf 0 x)
     all-levels =
         length-append (openedIn 0 1 bs) (openedOf (1 + actionsInside bs) x)
         ∙ omega (arith, opened-counts bs 0 0 1 0, opened-count x (1 + actionsInside bs) 0)
 
-    long-A₁ : length A₁ ≡ length A
-    long-A₁ = length-set A a (actionFields (numberOf n) ℓ q (length os))
+    long-actions : length (P₁ .actions) ≡ length (P .actions)
+    long-actions = length-set (P .actions) (P .a) (actWord (P .q) l)
 
-    long-O₁ : length O₁ ≡ length O
-    long-O₁ = length-sets O q (map operandEntryWord (map (of a) os))
+    long-operands : length (P₁ .operands) ≡ length (P .operands)
+    long-operands = length-sets (P .operands) (P .q) (map operandEntryWord (map (of (P .a)) os))
 
-    long-L₁ : length L₁ ≡ length L
-    long-L₁ = length-set L ℓ (levelFields b (suc p) (netNumber u))
+    long-levels : length (P₁ .levels) ≡ length (P .levels)
+    long-levels = length-set (P .levels) ℓ (levelWord u)
 
-    at-in : AtIn A₁ ℓ a (suc a)
-    at-in =
+    before : Before P₁ ℓ (P .a)
+    before =
         record {
           above = omega arith;
           owned =
-              ap actionLevel (getD-set-same A a (actionFields (numberOf n) ℓ q (length os)) 0 (omega (arith, room .actions)))
-              ∙ omega (arith, number-below n, at .inside, room .few-levels, room .few-operands, all-levels);
+              ap (λ w. actionOf w .level) (getD-set-same (P .actions) (P .a) (actWord (P .q) l) 0 (omega (arith, room .actions)))
+              ∙ ap (λ (k : D.Action). k .level)
+              (action-back (record { name = n; level = ℓ; first = P .q; count = length os }) (omega (arith, is .inside, room .few-levels, all-levels))
+              (omega (arith, room .few-operands)) (omega (arith, room .few-operands)));
         }
 
-    room-in : Room A₁ O₁ L₁ (suc a) (actionsInside bs) q₁ (ops (actedIn m bs)) m (length (openedIn 0 0 bs))
+    room-in : RoomIn P₁ bs
     room-in =
         record {
-          actions = omega (arith, room .actions, long-A₁);
-          operands = omega (arith, room .operands, long-O₁, all-ops);
-          levels = omega (arith, room .levels, long-L₁, all-levels);
+          actions = omega (arith, room .actions, long-actions);
+          operands = omega (arith, room .operands, long-operands, all-ops);
+          levels = omega (arith, room .levels, long-levels, all-levels);
           few-actions = omega (arith, room .few-actions);
           few-operands = omega (arith, room .few-operands, all-ops);
           few-levels = omega (arith, room .few-levels, all-levels);
         }
 
-    at-next : At L₂ ℓ a₂ q₂ m₂ b (suc p) u
-    at-next =
+    next : In P₂ ℓ u
+    next =
         record {
-          inside = omega (arith, at .inside);
+          inside = omega (arith, is .inside);
           here =
-              getD-before (map levelFinal (openedIn a (suc a) bs)) L₁ m ℓ (at .inside)
-              ∙ getD-set-same L ℓ (levelFields b (suc p) (netNumber u)) 0 (omega (arith, at .inside, room .levels));
-          block = at .block;
-          count = omega (arith, at .count);
-          near = widens (suc a) q₁ a₂ q₂ u (omega arith) (omega arith) (moves-near n os a q t (at .near));
+              getD-before (map levelFinal (openedIn (P .a) (P₁ .a) bs)) (P₁ .levels) (P .m) ℓ (is .inside)
+              ∙ getD-set-same (P .levels) ℓ (levelWord u) 0 (omega (arith, is .inside, room .levels));
+          block = is .block;
+          count = omega (arith, is .count);
+          near = widens (P₁ .a) (P₁ .q) (P₂ .a) (P₂ .q) (u .net) (omega arith) (omega arith) (moves-near n os (P .a) (P .q) (v .net) (is .near));
         }
 
-    room-next : Room A₂ O₂ L₂ a₂ (allActions x) q₂ (ops (actedOf ℓ m₂ x)) m₂ (length (openedOf 0 x))
+    room-next : RoomOf P₂ ℓ x
     room-next =
         record {
-          actions = omega (arith, room .actions, long-A₁, length-sets A₁ (suc a) (actWords q₁ (actedIn m bs)));
-          operands = omega (arith, room .operands, long-O₁, length-sets O₁ q₁ (opWords (suc a) (actedIn m bs)), all-ops);
-          levels = omega (arith, room .levels, long-L₁, length-sets L₁ m (map levelFinal (openedIn a (suc a) bs)), all-levels);
+          actions = omega (arith, room .actions, long-actions, length-sets (P₁ .actions) (P₁ .a) (actWords (P₁ .q) (actedIn (P .m) bs)));
+          operands = omega (arith, room .operands, long-operands, length-sets (P₁ .operands) (P₁ .q) (opWords (P₁ .a) (actedIn (P .m) bs)), all-ops);
+          levels = omega (arith, room .levels, long-levels, length-sets (P₁ .levels) (P .m) (map levelFinal (openedIn (P .a) (P₁ .a) bs)), all-levels);
           few-actions = omega (arith, room .few-actions);
           few-operands = omega (arith, room .few-operands, all-ops);
           few-levels = omega (arith, room .few-levels, all-levels);
         }
 
-    actions-join : sets A₂ a₂ (actWords q₂ (actedOf ℓ m₂ x)) ≡ sets A a (actWords q (actedOf ℓ m (action n os bs x)))
+    actions-join : behind P₂ ℓ u x .actions ≡ behind P ℓ v (action n os bs x) .actions
     actions-join =
-        joined (actWords q₁ (actedIn m bs)) A₁ (actWords q₂ (actedOf ℓ m₂ x)) (suc a) a₂ (omega (arith, act-length (actedIn m bs) q₁, acted-counts bs m))
-        ∙ ap (sets A₁ (suc a)) (sym (act-append (actedIn m bs) (actedOf ℓ m₂ x) q₁))
+        joined (actWords (P₁ .q) (actedIn (P .m) bs)) (P₁ .actions) (actWords (P₂ .q) (actedOf ℓ (P₂ .m) x)) (P₁ .a) (P₂ .a)
+        (omega (arith, act-length (actedIn (P .m) bs) (P₁ .q), acted-counts bs (P .m)))
+        ∙ ap (sets (P₁ .actions) (P₁ .a)) (sym (act-append (actedIn (P .m) bs) (actedOf ℓ (P₂ .m) x) (P₁ .q)))
 
-    operands-join : sets O₂ q₂ (opWords a₂ (actedOf ℓ m₂ x)) ≡ sets O q (opWords a (actedOf ℓ m (action n os bs x)))
+    operands-join : behind P₂ ℓ u x .operands ≡ behind P ℓ v (action n os bs x) .operands
     operands-join =
-        let f = map operandEntryWord (map (of a) os) in
-        let z : a₂ ≡ suc a + length (actedIn m bs) = omega (arith, acted-counts bs m) in
-        joined (opWords (suc a) (actedIn m bs)) O₁ (opWords a₂ (actedOf ℓ m₂ x)) q₁ q₂ (omega (arith, op-length (actedIn m bs) (suc a)))
-        ∙ ap (λ k. sets O₁ q₁ (opWords (suc a) (actedIn m bs) ++ opWords k (actedOf ℓ m₂ x))) z
-        ∙ ap (sets O₁ q₁) (sym (op-append (actedIn m bs) (actedOf ℓ m₂ x) (suc a)))
-        ∙ joined f O (opWords (suc a) (actedIn m bs ++ actedOf ℓ m₂ x)) q q₁ (omega (arith, length-map (map (of a) os) operandEntryWord, length-map os (of a)))
-        ∙ ap (sets O q) (sym (map-append operandEntryWord (map (of a) os) (operandsFrom (suc a) (actedIn m bs ++ actedOf ℓ m₂ x))))
+        let own = map operandEntryWord (map (of (P .a)) os) in
+        let in-blocks = actedIn (P .m) bs in
+        let rest = actedOf ℓ (P₂ .m) x in
+        let z : P₂ .a ≡ P₁ .a + length in-blocks = omega (arith, acted-counts bs (P .m)) in
+        joined (opWords (P₁ .a) in-blocks) (P₁ .operands) (opWords (P₂ .a) rest) (P₁ .q) (P₂ .q) (omega (arith, op-length in-blocks (P₁ .a)))
+        ∙ ap (λ k. sets (P₁ .operands) (P₁ .q) (opWords (P₁ .a) in-blocks ++ opWords k rest)) z
+        ∙ ap (sets (P₁ .operands) (P₁ .q)) (sym (op-append in-blocks rest (P₁ .a)))
+        ∙ joined own (P .operands) (opWords (P₁ .a) (in-blocks ++ rest)) (P .q) (P₁ .q) (omega (arith, length-map (map (of (P .a)) os) operandEntryWord, length-map os (of (P .a))))
+        ∙ ap (sets (P .operands) (P .q)) (sym (map-append operandEntryWord (map (of (P .a)) os) (operandsFrom (P₁ .a) (in-blocks ++ rest))))
 
-    levels-join : sets (set L₂ ℓ (levelAfter b (suc p) a₂ u x)) m₂ (map levelFinal (openedOf a₂ x))
-        ≡ sets (set L ℓ (levelAfter b p a t (action n os bs x))) m (map levelFinal (openedOf a (action n os bs x)))
+    levels-join : behind P₂ ℓ u x .levels ≡ behind P ℓ v (action n os bs x) .levels
     levels-join =
-        let ws = map levelFinal (openedIn a (suc a) bs) in
-        let vs = map levelFinal (openedOf a₂ x) in
-        let v = levelAfter b (suc p) a₂ u x in
-        let z : suc p + ownActions x ≡ p + suc (ownActions x) = omega arith in
-        ap (λ k. sets k m₂ vs) (set-before ws L₁ m ℓ v (at .inside) ∙ ap (λ k. sets k m ws) (set-set L ℓ (levelFields b (suc p) (netNumber u)) v))
-        ∙ joined ws (set L ℓ v) vs m m₂ (omega (arith, length-map (openedIn a (suc a) bs) levelFinal, opened-counts bs a 0 (suc a) 0))
-        ∙ (λ j. sets (set L ℓ (levelFields b (z j) (netNumber (sym (run-action a t l bs x) j)))) m (sym (map-append levelFinal (openedIn a (suc a) bs) (openedOf a₂ x)) j))
+        let ws = map levelFinal (openedIn (P .a) (P₁ .a) bs) in
+        let vs = map levelFinal (openedOf (P₂ .a) x) in
+        let w = levelWord (levelAfter u (P₂ .a) x) in
+        let z : v .actions + 1 + ownActions x ≡ v .actions + suc (ownActions x) = omega arith in
+        ap (λ k. sets k (P₂ .m) vs) (set-before ws (P₁ .levels) (P .m) ℓ w (is .inside) ∙ ap (λ k. sets k (P .m) ws) (set-set (P .levels) ℓ (levelWord u) w))
+        ∙ joined ws (set (P .levels) ℓ w) vs (P .m) (P₂ .m) (omega (arith, length-map (openedIn (P .a) (P₁ .a) bs) levelFinal, opened-counts bs (P .a) 0 (P₁ .a) 0))
+        ∙ (λ j. sets (set (P .levels) ℓ (levelWord (record { block = v .block; actions = z j; net = sym (run-action (P .a) (v .net) l bs x) j }))) (P .m)
+        (sym (map-append levelFinal (openedIn (P .a) (P₁ .a) bs) (openedOf (P₂ .a) x)) j))
 
-    acted-after : after A₂ O₂ L₂ ℓ a a₂ q₂ m₂ b (suc p) u x ≡ after A O L ℓ g a q m b p t (action n os bs x)
+    acted-after : behind P₂ ℓ u x ≡ behind P ℓ v (action n os bs x)
     acted-after =
-        let za : a₂ + allActions x ≡ a + suc (actionsInside bs + allActions x) = omega arith in
-        let zq : q₂ + ops (actedOf ℓ m₂ x) ≡ q + (length os + ops (actedIn m bs ++ actedOf ℓ m₂ x)) = omega (arith, all-ops) in
-        let zm : m₂ + length (openedOf 0 x) ≡ m + length (openedIn 0 1 bs ++ openedOf (1 + actionsInside bs) x) = omega (arith, all-levels) in
-        λ j. written (actions-join j) (operands-join j) (levels-join j) (standing ℓ (lastOf a a₂ x) (za j) (zq j) (zm j))
+        let za : P₂ .a + allActions x ≡ P .a + suc (actionsInside bs + allActions x) = omega arith in
+        let zq : P₂ .q + ops (actedOf ℓ (P₂ .m) x) ≡ P .q + (length os + ops (actedIn (P .m) bs ++ actedOf ℓ (P₂ .m) x)) = omega (arith, all-ops) in
+        let zm : P₂ .m + length (openedOf 0 x) ≡ P .m + length (openedIn 0 1 bs ++ openedOf (1 + actionsInside bs) x) = omega (arith, all-levels) in
+        λ j. record { actions = actions-join j; operands = operands-join j; levels = levels-join j; a = za j; q = zq j; m = zm j }
 
   -- a block of action o and the blocks behind it
-  module _ (A O L : List ℕ) (ℓ o a q m : ℕ) (at : AtIn A ℓ o a) (p : Part) (x : Items) (bs : Blocks)
-      (room : Room A O L a (actionsInside (block p x bs)) q (ops (actedIn m (block p x bs))) m (length (openedIn 0 0 (block p x bs)))) where
-    abbrev b₀ : ℕ
-    b₀ = o * 4 + partNumber p + 1
+  module _ (P : Point) (ℓ o : ℕ) (is : Before P ℓ o) (p : Part) (x : Items) (bs : Blocks) (room : RoomIn P (block p x bs)) where
+    abbrev v₀ : Level
+    v₀ = fresh (partOf (partNumber p) o)
 
-    abbrev t₀ : Net
-    t₀ = N.Height (pos 0)
+    abbrev Pₒ : Point
+    Pₒ = opens P p o
 
-    abbrev Lₒ : List ℕ
-    Lₒ = set L m (levelFields b₀ 0 196608)
+    abbrev P₃ : Point
+    P₃ = behind Pₒ (P .m) v₀ x
 
-    abbrev a₃ : ℕ
-    a₃ = a + allActions x
-
-    abbrev q₃ : ℕ
-    q₃ = q + ops (actedOf m (suc m) x)
-
-    abbrev m₃ : ℕ
-    m₃ = suc m + length (openedOf 0 x)
-
-    abbrev A₃ : List ℕ
-    A₃ = sets A a (actWords q (actedOf m (suc m) x))
-
-    abbrev O₃ : List ℕ
-    O₃ = sets O q (opWords a (actedOf m (suc m) x))
-
-    abbrev L₃ : List ℕ
-    L₃ = sets (set Lₒ m (levelAfter b₀ 0 a t₀ x)) (suc m) (map levelFinal (openedOf a x))
-
-    ops-both : ops (actedOf m (suc m) x ++ actedIn m₃ bs) ≡ ops (actedOf m (suc m) x) + ops (actedIn m₃ bs)
-    ops-both = ops-append (actedOf m (suc m) x) (actedIn m₃ bs)
+    ops-both : ops (actedOf (P .m) (Pₒ .m) x ++ actedIn (P₃ .m) bs) ≡ ops (actedOf (P .m) (Pₒ .m) x) + ops (actedIn (P₃ .m) bs)
+    ops-both = ops-append (actedOf (P .m) (Pₒ .m) x) (actedIn (P₃ .m) bs)
 
     levels-both : length (openedOf 0 x ++ openedIn 0 (0 + allActions x) bs) ≡ length (openedOf 0 x) + length (openedIn 0 0 bs)
     levels-both = length-append (openedOf 0 x) (openedIn 0 (0 + allActions x) bs) ∙ omega (arith, opened-counts bs 0 0 (0 + allActions x) 0)
 
-    long-Lₒ : length Lₒ ≡ length L
-    long-Lₒ = length-set L m (levelFields b₀ 0 196608)
+    long-opened : length (Pₒ .levels) ≡ length (P .levels)
+    long-opened = length-set (P .levels) (P .m) (levelWord v₀)
 
-    at-inside : At Lₒ m a q (suc m) b₀ 0 t₀
-    at-inside =
+    block-small : Small (blockNumber (v₀ .block))
+    block-small = omega (arith, part-number (partNumber p) o (part-below p), is .above, room .few-actions, part-below p)
+
+    opened-in : In Pₒ (P .m) v₀
+    opened-in =
         record {
           inside = omega arith;
-          here = getD-set-same L m (levelFields b₀ 0 196608) 0 (omega (arith, room .levels));
-          block = omega (arith, at .above, room .few-actions, part-below p);
+          here = getD-set-same (P .levels) (P .m) (levelWord v₀) 0 (omega (arith, room .levels));
+          block = block-small;
           count = omega arith;
           near = omega arith;
         }
 
-    room-inside : Room A O Lₒ a (allActions x) q (ops (actedOf m (suc m) x)) (suc m) (length (openedOf 0 x))
+    room-inside : RoomOf Pₒ (P .m) x
     room-inside =
         record {
           actions = omega (arith, room .actions);
           operands = omega (arith, room .operands, ops-both);
-          levels = omega (arith, room .levels, long-Lₒ, levels-both);
+          levels = omega (arith, room .levels, long-opened, levels-both);
           few-actions = omega (arith, room .few-actions);
           few-operands = omega (arith, room .few-operands, ops-both);
           few-levels = omega (arith, room .few-levels, levels-both);
         }
 
-    -- the owner that a closing brace finds, and its level
-    owner-back : ownerIn L₃ m ≡ o
+    -- the owner that a closing brace finds
+    owner-back : ownerIn (P₃ .levels) (P .m) ≡ o
     owner-back =
-        let v = levelAfter b₀ 0 a t₀ x in
-        let r = run-near x m (suc m) a q t₀ (omega arith) in
-        let n = net-small (runFrom a t₀ x) (in-reach a₃ q₃ (runFrom a t₀ x) (omega (arith, room .few-actions)) (omega (arith, room .few-operands, ops-both)) r) in
-        ap (λ (k : ℕ). (heldIn k .block - 1) / 4)
-        (getD-before (map levelFinal (openedOf a x)) (set Lₒ m v) (suc m) m (omega arith) ∙ getD-set-same Lₒ m v 0 (omega (arith, room .levels, long-Lₒ)))
-        ∙ ap (λ (h : Held). (h .block - 1) / 4) (held b₀ (0 + ownActions x) (netNumber (runFrom a t₀ x)) (at-inside .block) (omega (arith, own-few x, room .few-actions)) n)
-        ∙ omega (arith, part-below p)
+        let v = levelAfter v₀ (P .a) x in
+        let L = set (Pₒ .levels) (P .m) (levelWord v) in
+        let net = run-near x (P .m) (Pₒ .m) (P .a) (P .q) (v₀ .net) (omega arith) in
+        ap (λ (k : Level). ownerOf (k .block))
+        (read-back (P₃ .levels) (P .m) v
+        (getD-before (map levelFinal (openedOf (P .a) x)) L (Pₒ .m) (P .m) (omega arith) ∙ getD-set-same (Pₒ .levels) (P .m) (levelWord v) 0 (omega (arith, room .levels, long-opened)))
+        block-small (omega (arith, own-few x, room .few-actions))
+        (bounded-small (P₃ .a) (P₃ .q) (v .net) (omega (arith, room .few-actions)) (omega (arith, room .few-operands, ops-both)) net))
+        ∙ part-owner (partNumber p) o
 
-    at-closed : AtIn A₃ ℓ o a₃
-    at-closed =
+    closed-before : Before P₃ ℓ o
+    closed-before =
         record {
-          above = omega (arith, at .above);
-          owned = ap actionLevel (getD-before (actWords q (actedOf m (suc m) x)) A a o (at .above)) ∙ at .owned;
+          above = omega (arith, is .above);
+          owned = ap (λ w. actionOf w .level) (getD-before (actWords (P .q) (actedOf (P .m) (Pₒ .m) x)) (P .actions) (P .a) o (is .above)) ∙ is .owned;
         }
 
-    room-closed : Room A₃ O₃ L₃ a₃ (actionsInside bs) q₃ (ops (actedIn m₃ bs)) m₃ (length (openedIn 0 0 bs))
+    room-closed : RoomIn P₃ bs
     room-closed =
         record {
-          actions = omega (arith, room .actions, length-sets A a (actWords q (actedOf m (suc m) x)));
-          operands = omega (arith, room .operands, length-sets O q (opWords a (actedOf m (suc m) x)), ops-both);
+          actions = omega (arith, room .actions, length-sets (P .actions) (P .a) (actWords (P .q) (actedOf (P .m) (Pₒ .m) x)));
+          operands = omega (arith, room .operands, length-sets (P .operands) (P .q) (opWords (P .a) (actedOf (P .m) (Pₒ .m) x)), ops-both);
           levels =
               omega (
                 arith,
                 room .levels,
-                long-Lₒ,
-                length-sets (set Lₒ m (levelAfter b₀ 0 a t₀ x)) (suc m) (map levelFinal (openedOf a x)),
-                length-set Lₒ m (levelAfter b₀ 0 a t₀ x),
+                long-opened,
+                length-sets (set (Pₒ .levels) (P .m) (levelWord (levelAfter v₀ (P .a) x))) (Pₒ .m) (map levelFinal (openedOf (P .a) x)),
+                length-set (Pₒ .levels) (P .m) (levelWord (levelAfter v₀ (P .a) x)),
                 levels-both,
               );
           few-actions = omega (arith, room .few-actions);
@@ -533,41 +481,43 @@ module _ (text s : List ℕ) (few : length s ≤ 65536) where
           few-levels = omega (arith, room .few-levels, levels-both);
         }
 
-    block-after : afterIn A₃ O₃ L₃ ℓ o a₃ q₃ m₃ bs ≡ afterIn A O L ℓ o a q m (block p x bs)
+    block-after : behindIn P₃ o bs ≡ behindIn P o (block p x bs)
     block-after =
-        let v = levelAfter b₀ 0 a t₀ x in
-        let ws = map levelFinal (openedOf a x) in
-        let vs = map levelFinal (openedIn o a₃ bs) in
-        let y = acted-count x m (suc m) in
-        let k : a₃ ≡ a + length (actedOf m (suc m) x) = omega (arith, y) in
-        let za : a₃ + actionsInside bs ≡ a + (allActions x + actionsInside bs) = omega arith in
-        let zq : q₃ + ops (actedIn m₃ bs) ≡ q + ops (actedOf m (suc m) x ++ actedIn m₃ bs) = omega (arith, ops-both) in
-        let zm : m₃ + length (openedIn 0 0 bs) ≡ m + suc (length (openedOf 0 x ++ openedIn 0 (0 + allActions x) bs)) = omega (arith, levels-both) in
+        let acts-in = actedOf (P .m) (Pₒ .m) x in
+        let rest = actedIn (P₃ .m) bs in
+        let w = levelWord (levelAfter v₀ (P .a) x) in
+        let ws = map levelFinal (openedOf (P .a) x) in
+        let vs = map levelFinal (openedIn o (P₃ .a) bs) in
+        let y = acted-count x (P .m) (Pₒ .m) in
+        let k : P₃ .a ≡ P .a + length acts-in = omega (arith, y) in
+        let za : P₃ .a + actionsInside bs ≡ P .a + (allActions x + actionsInside bs) = omega arith in
+        let zq : P₃ .q + ops rest ≡ P .q + ops (acts-in ++ rest) = omega (arith, ops-both) in
+        let zm : P₃ .m + length (openedIn 0 0 bs) ≡ P .m + suc (length (openedOf 0 x ++ openedIn 0 (0 + allActions x) bs)) = omega (arith, levels-both) in
         let own : 0 + ownActions x ≡ ownActions x = omega arith in
         let ja =
-        joined (actWords q (actedOf m (suc m) x)) A (actWords q₃ (actedIn m₃ bs)) a a₃ (omega (arith, act-length (actedOf m (suc m) x) q, y))
-        ∙ ap (sets A a) (sym (act-append (actedOf m (suc m) x) (actedIn m₃ bs) q))
+        joined (actWords (P .q) acts-in) (P .actions) (actWords (P₃ .q) rest) (P .a) (P₃ .a) (omega (arith, act-length acts-in (P .q), y))
+        ∙ ap (sets (P .actions) (P .a)) (sym (act-append acts-in rest (P .q)))
         in
         let jo =
-        joined (opWords a (actedOf m (suc m) x)) O (opWords a₃ (actedIn m₃ bs)) q q₃ (omega (arith, op-length (actedOf m (suc m) x) a))
-        ∙ ap (λ z. sets O q (opWords a (actedOf m (suc m) x) ++ opWords z (actedIn m₃ bs))) k
-        ∙ ap (sets O q) (sym (op-append (actedOf m (suc m) x) (actedIn m₃ bs) a))
+        joined (opWords (P .a) acts-in) (P .operands) (opWords (P₃ .a) rest) (P .q) (P₃ .q) (omega (arith, op-length acts-in (P .a)))
+        ∙ ap (λ z. sets (P .operands) (P .q) (opWords (P .a) acts-in ++ opWords z rest)) k
+        ∙ ap (sets (P .operands) (P .q)) (sym (op-append acts-in rest (P .a)))
         in
         let jl =
-        ap (λ z. sets (sets z (suc m) ws) m₃ vs) (set-set L m (levelFields b₀ 0 196608) v)
-        ∙ joined (v ∷ ws) L vs m m₃ (omega (arith, length-map (openedOf a x) levelFinal, opened-count x a 0))
-        ∙ (λ j. sets L m (levelFields (sym (block-number p o) j) (own j) (netNumber (runFrom a t₀ x)) ∷ sym (map-append levelFinal (openedOf a x) (openedIn o a₃ bs)) j))
+        ap (λ z. sets (sets z (Pₒ .m) ws) (P₃ .m) vs) (set-set (P .levels) (P .m) (levelWord v₀) w)
+        ∙ joined (w ∷ ws) (P .levels) vs (P .m) (P₃ .m) (omega (arith, length-map (openedOf (P .a) x) levelFinal, opened-count x (P .a) 0))
+        ∙ (λ j. sets (P .levels) (P .m)
+        (levelWord (record { block = part-entry p o j; actions = own j; net = runFrom (P .a) (v₀ .net) x }) ∷ sym (map-append levelFinal (openedOf (P .a) x) (openedIn o (P₃ .a) bs)) j))
         in
-        λ j. written (ja j) (jo j) (jl j) (standing ℓ o (za j) (zq j) (zm j))
+        λ j. record { actions = ja j; operands = jo j; levels = jl j; a = za j; q = zq j; m = zm j }
 
   mutual
-    pub of-items : (x : Items) (k : List Event) (A O L : List ℕ) (ℓ g a q m b p : ℕ) (t : Net) → At L ℓ a q m b p t
-        → Room A O L a (allActions x) q (ops (actedOf ℓ m x)) m (length (openedOf 0 x)) → AllOf (Of text s) x → Stops k
-        → run (events x k) (written A O L (standing ℓ g a q m)) ≡ run k (after A O L ℓ g a q m b p t x)
-    of-items done k A O L ℓ g a q m b p t at room h z = ap (run k) (stay A O L ℓ g a q m b p t at)
-    of-items (label n x) k A O L ℓ g a q m b p t at room h z =
-        ap (run (events x k)) (decoded 1 (placeOf n) (words (events x k)) (written A O L (standing ℓ g a q m)) (omega (arith, h .0 .0, few)))
-        ∙ of-items x k A O L ℓ g a q m b p t at
+    pub of-items : (x : Items) (k : List Event) (P : Point) (ℓ g : ℕ) (v : Level) → In P ℓ v → RoomOf P ℓ x → AllOf (Of text s) x → Stops k
+        → run (events x k) (at P ℓ g) ≡ run k (at (behind P ℓ v x) ℓ (lastOf g (P .a) x))
+    of-items done k P ℓ g v is room h z = ap (λ Q. run k (at Q ℓ g)) (stay P ℓ v is)
+    of-items (label t x) k P ℓ g v is room h z =
+        ap (run (events x k)) (decoded 1 (placeOf t) (words (events x k)) (at P ℓ g) (omega (arith, h .0 .0, few)))
+        ∙ of-items x k P ℓ g v is
         (record {
           actions = room .actions;
           operands = room .operands;
@@ -576,39 +526,26 @@ module _ (text s : List ℕ) (few : length s ≤ 65536) where
           few-operands = room .few-operands;
           few-levels = room .few-levels;
         }) (h .1) z
-        ∙ ap (λ (v : Net). run k (written (sets A a (actWords q (actedOf ℓ m x))) (sets O q (opWords a (actedOf ℓ m x)))
-        (sets (set L ℓ (levelFields b (p + ownActions x) (netNumber v))) m (map levelFinal (openedOf a x)))
-        (standing ℓ (lastOf g a x) (a + allActions x) (q + ops (actedOf ℓ m x)) (m + length (openedOf 0 x))))) (sym (run-label a t n x))
-    of-items (action n os bs x) k A O L ℓ g a q m b p t at room h z =
+        ∙ ap (λ Q. run k (at Q ℓ (lastOf g (P .a) x))) (passed P ℓ v t x)
+    of-items (action n os bs x) k P ℓ g v is room h z =
         let k′ = events x k in
         let stops = stops-items x k (low-of x (h .1 .1)) z in
-        let e = ops-append (actedIn m bs) (actedOf ℓ (m + length (openedIn 0 0 bs)) x) in
+        let e = ops-append (actedIn (P .m) bs) (actedOf ℓ (P .m + length (openedIn 0 0 bs)) x) in
         ap (run (block-events bs os k′))
-        (acted-step A O L ℓ g a q m b p t n os (words (block-events bs os k′)) at
-        (gathered bs os k′ (low-list os (h .0)) (low-in bs (h .1 .0)) stops) (h .0)
+        (acted-step P ℓ g v is n os (words (block-events bs os k′)) (gathered bs os k′ (low-list os (h .0)) (low-in bs (h .1 .0)) stops) (h .0)
         (omega (arith, room .few-actions)) (omega (arith, room .few-operands)) (omega (arith, room .operands)))
-        ∙ of-blocks bs os k′ (A₁ A O L ℓ g a q m b p t at n os bs x room) (O₁ A O L ℓ g a q m b p t at n os bs x room) (L₁ A O L ℓ g a q m b p t at n os bs x room) ℓ a (suc a) (q + length os) m
-        (at-in A O L ℓ g a q m b p t at n os bs x room) (room-in A O L ℓ g a q m b p t at n os bs x room) (low-list os (h .0)) (h .1 .0) stops
-        ∙ of-items x k (A₂ A O L ℓ g a q m b p t at n os bs x room) (O₂ A O L ℓ g a q m b p t at n os bs x room) (L₂ A O L ℓ g a q m b p t at n os bs x room) ℓ a
-        (suc a + actionsInside bs) (q + length os + ops (actedIn m bs)) (m + length (openedIn 0 0 bs)) b (suc p) (u A O L ℓ g a q m b p t at n os bs x room)
-        (at-next A O L ℓ g a q m b p t at n os bs x room) (room-next A O L ℓ g a q m b p t at n os bs x room) (h .1 .1) z
-        ∙ ap (run k) (acted-after A O L ℓ g a q m b p t at n os bs x room)
+        ∙ of-blocks bs os k′ (P₁ P ℓ v is n os bs x room) ℓ (P .a) (before P ℓ v is n os bs x room) (room-in P ℓ v is n os bs x room) (low-list os (h .0)) (h .1 .0) stops
+        ∙ of-items x k (P₂ P ℓ v is n os bs x room) ℓ (P .a) (u P ℓ v is n os bs x room) (next P ℓ v is n os bs x room) (room-next P ℓ v is n os bs x room) (h .1 .1) z
+        ∙ ap (λ Q. run k (at Q ℓ (lastOf (P .a) (suc (P .a) + actionsInside bs) x))) (acted-after P ℓ v is n os bs x room)
 
-    of-blocks : (bs : Blocks) (os : List Lexeme) (k : List Event) (A O L : List ℕ) (ℓ o a q m : ℕ) → AtIn A ℓ o a
-        → Room A O L a (actionsInside bs) q (ops (actedIn m bs)) m (length (openedIn 0 0 bs)) → All IsLow os → AllIn (Of text s) bs → Stops k
-        → run (block-events bs os k) (written A O L (standing ℓ o a q m)) ≡ run k (afterIn A O L ℓ o a q m bs)
-    of-blocks no-blocks os k A O L ℓ o a q m at room l h z = gave os k (written A O L (standing ℓ o a q m)) l ∙ ap (run k) (no-more A O L ℓ o a q m)
-    of-blocks (block p x bs) os k A O L ℓ o a q m at room l h z =
+    of-blocks : (bs : Blocks) (os : List Lexeme) (k : List Event) (P : Point) (ℓ o : ℕ) → Before P ℓ o → RoomIn P bs → All IsLow os → AllIn (Of text s) bs → Stops k
+        → run (block-events bs os k) (at P ℓ o) ≡ run k (at (behindIn P o bs) ℓ o)
+    of-blocks no-blocks os k P ℓ o is room l h z = gave os k (at P ℓ o) l ∙ ap (λ Q. run k (at Q ℓ o)) (no-more P o)
+    of-blocks (block p x bs) os k P ℓ o is room l h z =
         let rest = block-events bs (waiting p os) k in
-        gave (leading p os) (E.opened p ∷ events x (E.closed ∷ rest)) (written A O L (standing ℓ o a q m)) (low-leading p os l)
-        ∙ ap (run (events x (E.closed ∷ rest))) (opened-step A O L ℓ o a q m p (words (events x (E.closed ∷ rest))))
-        ∙ of-items x (E.closed ∷ rest) A O (Lₒ A O L ℓ o a q m at p x bs room) m o a q (suc m) (o * 4 + partNumber p + 1) 0 (N.Height (pos 0))
-        (at-inside A O L ℓ o a q m at p x bs room) (room-inside A O L ℓ o a q m at p x bs room) (h .0) (stops-closed rest)
-        ∙ ap (run rest)
-        (closed-step (A₃ A O L ℓ o a q m at p x bs room) (O₃ A O L ℓ o a q m at p x bs room) (L₃ A O L ℓ o a q m at p x bs room) ℓ o m (lastOf o a x)
-        (a + allActions x) (q + ops (actedOf m (suc m) x)) (suc m + length (openedOf 0 x)) (words rest)
-        (owner-back A O L ℓ o a q m at p x bs room) (at-closed A O L ℓ o a q m at p x bs room .owned))
-        ∙ of-blocks bs (waiting p os) k (A₃ A O L ℓ o a q m at p x bs room) (O₃ A O L ℓ o a q m at p x bs room) (L₃ A O L ℓ o a q m at p x bs room) ℓ o
-        (a + allActions x) (q + ops (actedOf m (suc m) x)) (suc m + length (openedOf 0 x))
-        (at-closed A O L ℓ o a q m at p x bs room) (room-closed A O L ℓ o a q m at p x bs room) (low-waiting p os l) (h .1) z
-        ∙ ap (run k) (block-after A O L ℓ o a q m at p x bs room)
+        gave (leading p os) (E.opened p ∷ events x (E.closed ∷ rest)) (at P ℓ o) (low-leading p os l)
+        ∙ ap (run (events x (E.closed ∷ rest))) (opened-step P ℓ o p (words (events x (E.closed ∷ rest))))
+        ∙ of-items x (E.closed ∷ rest) (opens P p o) (P .m) o (fresh (partOf (partNumber p) o)) (opened-in P ℓ o is p x bs room) (room-inside P ℓ o is p x bs room) (h .0) (stops-closed rest)
+        ∙ ap (run rest) (closed-step (P₃ P ℓ o is p x bs room) ℓ o (P .m) (lastOf o (P .a) x) (words rest) (owner-back P ℓ o is p x bs room) (closed-before P ℓ o is p x bs room .owned))
+        ∙ of-blocks bs (waiting p os) k (P₃ P ℓ o is p x bs room) ℓ o (closed-before P ℓ o is p x bs room) (room-closed P ℓ o is p x bs room) (low-waiting p os l) (h .1) z
+        ∙ ap (λ Q. run k (at Q ℓ o)) (block-after P ℓ o is p x bs room)

@@ -14,8 +14,8 @@ use Rattle.entries.specs.declared.Net.{Net}
 use Rattle.entries.specs.declared.Net.the-variants as N
 use Rattle.entries.specs.declared.Level.{Level}
 use Rattle.entries.specs.declared.Label.{Label}
-use Rattle.grammar.specs.Operands.{placeOf}
-use Rattle.grammar.specs.Grammar.{Part, body, try, catch, finally}
+use Rattle.lexemes.specs.Lexemes.{placeOf}
+use Rattle.lexemes.specs.Events.{Part, body, try, catch, finally}
 use Rattle.grammar.specs.Reading as R
 use Rattle.grammar.specs.Nets as Nets
 
@@ -77,5 +77,5 @@ abbrev pub labelWords : R.Reading → List ℕ
 labelWords r = map labelEntryWord (r .labels)
 
 -- entries, and behind them what was there
-abbrev pub front : List ℕ → List ℕ → List ℕ
+abbrev pub front : {A : Type 0} → List A → List A → List A
 front l table = l ++ drop (length l) table

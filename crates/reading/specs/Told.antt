@@ -1,24 +1,23 @@
 -- What leads from a text to the tables of its reading: its tokens and the log of its tree, then its tables, then the lent ones.
 use mathlib.Core.Path.{_≡_}
 use mathlib.Core.List.{List, map}
-use Prim.Native.Nat.{ℕ, _≤_, _<_}
+use Prim.Native.Nat.{ℕ, _*_, _≤_, _<_}
 use lib.ListN.{length, take, getD}
 use Rattle.answers.specs.Answers.{accepted, refusal}
 use Rattle.lexer.specs.Lexing.{lexText}
 use Rattle.tokens.specs.declared.Token.{Token}
 use Rattle.tokens.specs.Tokens.{wordOf}
-use Rattle.grammar.specs.Operands.{Lexeme, numbered, placeOf}
+use Rattle.lexemes.specs.Lexemes.{Lexeme, numbered, placeOf}
 use Rattle.grammar.specs.Grammar.{Items, Text}
-use Rattle.grammar.specs.Reading.{readingOf}
+use Rattle.grammar.specs.Reading.{openedOf, readingOf}
 use Rattle.grammar.specs.Nets.{nets}
 use Rattle.grammar.specs.Refusals.{Outcome, Answers}
-use Rattle.grammar.proofs.Sizes.{size}
-use Rattle.grouping.specs.Grouping.{Below}
+use Rattle.grammar.specs.Trees.{size}
 use Rattle.operands.specs.Lexemes.{lexemeOf}
 use Rattle.parser.specs.Parsed.{logOf}
 use Rattle.reading.specs.declared.Parsing.{Parsing}
 use Rattle.reading.specs.declared.Parsing.the-variants as P
-use Rattle.reading.specs.Trees.{AllOf}
+use Rattle.reading.specs.Trees.{AllOf, namedOf}
 use Rattle.reading.specs.Tables.{front, actionWords, operandWords, levelWords}
 
 -- ---- a text's tokens and its tree
@@ -31,6 +30,8 @@ pub record Known (text s : List ℕ) (x : Items) : Type 0 where
   pub known : AllOf (Of text s) x
   pub few : length s ≤ 65536
   pub small : size x ≤ length s
+  pub named-half : 2 * length (namedOf 0 1 0 x) ≤ length s
+  pub opened-half : 2 * length (openedOf 0 x) ≤ length s
 
 -- the words s of a text's tokens, and the log of its tree
 pub record Logged (text : List ℕ) (room : ℕ) (s log : List ℕ) : Type 0 where
@@ -50,15 +51,6 @@ pub record Logged (text : List ℕ) (room : ℕ) (s log : List ℕ) : Type 0 whe
 unfoldable pub Parses : List ℕ → ℕ → List ℕ → List ℕ → Parsing → Type 0
 Parses text room s log (P.Refused r) = (places : List ℕ) → Answers room places text (refusal r)
 Parses text room s log (P.Events n e) = Logged text room (take n s) (take e log) × ((n ≤ length s) × (e ≤ length log))
-
--- what arranging labels asks: keys below the number of levels, and places
-pub record LabelsAsked (n levels : ℕ) (labels sorted starts : List ℕ) : Type 0 where
-  pub inside : n ≤ length labels
-  pub sorted-room : n ≤ length sorted
-  pub starts-room : levels < length starts
-  pub index-room : n ≤ length starts
-  pub few : n ≤ 65536
-  pub keys : Below levels (take n labels)
 
 -- ---- the lent tables
 

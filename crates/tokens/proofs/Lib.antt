@@ -1,3 +1,4 @@
 pub mod Arms
 pub mod Raw
 pub mod Words
+pub mod Places

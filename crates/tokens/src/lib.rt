@@ -4,7 +4,7 @@ use actions::action_number;
 use names::ActionName;
 ghost use mathlib.Core.Path.{_≡_};
 ghost use Prim.Native.Nat.{_<_, _≤_};
-ghost use Rattle.tokens.specs.Kinds.{kindNumber, kindOf};
+ghost use Rattle.tokens.specs.Kinds.{codeOf, kindNumber, kindOf};
 ghost use Rattle.tokens.specs.Tokens.{span, tokenIn, wordOf, tokenOf, within, rawText};
 
 pub enum TokenKind {
@@ -117,6 +117,14 @@ pub fn word_of(kind: TokenKind, start: usize, end: usize) -> u64
     ensures { λ r. ⌜ r ≡ wordOf (tokenIn kind (span start end)) ⌝ }
 {
     kind_number(kind) * 1099511627776 + (start as u64) * 1048576 + (end as u64)
+}
+
+// The place of a token's kind in `TokenKind`, which its word tells without the rest of it.
+pub fn kind_place(word: u64) -> u64
+    ensures { λ r. ⌜ r ≡ codeOf (tokenOf word .kind) .place ⌝ }
+{
+    let place = word / 72057594037927936;
+    if place < 18 { place } else { 18 }
 }
 
 // The token of a table word.

@@ -1,41 +1,21 @@
--- `deeper` and `give_operands`: the operands of an action, gathered from the events behind it. Assumes nothing.
-use mathlib.Core.Path.{_≡_, refl, sym, ap, subst, _∙_}
+-- `give_operands`: the operands of an action, gathered from the events behind it. Assumes nothing.
+use mathlib.Core.Path.{_≡_, refl, sym, ap, _∙_}
 use mathlib.Core.Bool.{cond}
 use mathlib.Core.List.{List, [], _∷_, map}
-use Prim.Native.Nat.{ℕ, zero, suc, _+_, _-_, _*_, _/_, _%_, _≤_, _<_}
+use Prim.Native.Nat.{ℕ, zero, suc, _+_, _≤_, _<_}
 use native.Mathlib.Numerals.{add-one}
 use native.Mathlib.Omega.{arith}
 use lib.ListN.{length, drop, getD, set, drop-of-length-le, length-set}
 use lib.Seq.{sets, drop-cons}
 use borrow.Author.Tests.{eq-eqb, ne-eqb}
-use Rattle.entries.specs.Fields.{operandFields}
-use Rattle.writing.specs.Writing.{deeper, gather}
+use Rattle.events.specs.declared.Event.{Event}
+use Rattle.events.specs.declared.Event.the-variants as E
+use Rattle.events.specs.Log.{eventOf}
+use Rattle.writing.specs.Writing.{deeper, gatherBy, gather, given}
 
-module _ (k d : ℕ) where
-  pub deeper-opened : k ≡ 3 → d + 1 ≡ deeper k d
-  deeper-opened e = simp (eq-eqb k 3 e)
-
-  pub deeper-closed : (k ≡ 3 → ⊥) → k ≡ 4 → d - 1 ≡ deeper k d
-  deeper-closed n e = simp (ne-eqb k 3 n, eq-eqb k 4 e)
-
-  pub deeper-other : (k ≡ 3 → ⊥) → (k ≡ 4 → ⊥) → d ≡ deeper k d
-  deeper-other n m = simp (ne-eqb k 3 n, ne-eqb k 4 m)
-
--- ---- by the first event
-
-module _ (w : ℕ) (l : List ℕ) where
-  pub gather-given : w / 1048576 ≡ 2 → gather 0 (w ∷ l) ≡ w % 1048576 ∷ gather 0 l
-  gather-given e = simp (eq-eqb (w / 1048576) 2 e)
-
-  pub gather-try : (w / 1048576 ≡ 2 → ⊥) → w ≡ 3145729 → gather 0 (w ∷ l) ≡ gather 1 l
-  gather-try n e = simp (ne-eqb (w / 1048576) 2 n, eq-eqb w 3145729 e)
-
-  pub gather-stop : (w / 1048576 ≡ 2 → ⊥) → (w ≡ 3145729 → ⊥) → gather 0 (w ∷ l) ≡ []
-  gather-stop n m = simp (ne-eqb (w / 1048576) 2 n, ne-eqb w 3145729 m)
-
-  pub gather-deep : (d : ℕ) → 0 < d → gather d (w ∷ l) ≡ gather (deeper (w / 1048576) d) l
-  gather-deep zero h = absurd (omega arith)
-  gather-deep (suc d) h = refl
+pub gather-deep : (d w : ℕ) (l : List ℕ) → 0 < d → gather d (w ∷ l) ≡ gather (deeper (eventOf w) d) l
+gather-deep zero w l h = absurd (omega arith)
+gather-deep (suc d) w l h = refl
 
 pub gather-past : (d : ℕ) → gather d [] ≡ []
 gather-past zero = refl
@@ -43,13 +23,18 @@ gather-past (suc d) = refl
 
 -- ---- the loop
 
+-- what is promised once all operands are given
+abbrev Gave : (log : List ℕ) (from a at : ℕ) (old new : List ℕ) (end : ℕ) → Type 0
+Gave log from a at old new end =
+    (new ≡ sets old at (map (given a) (gather 0 (drop from log)))) × ((end ≡ at + length (gather 0 (drop from log))) × ((at ≤ end) × (end ≤ at + length log)))
+
 pub record Giving (log : List ℕ) (from a at : ℕ) (old new : List ℕ) (d end i : ℕ) : Type 0 where
   pub inside : i ≤ length log
   pub since : from ≤ i
   pub shallow : d ≤ i
   pub above : at ≤ end
   pub few : end + from ≤ at + i
-  pub told : sets old at (map (operandFields a) (gather 0 (drop from log))) ≡ sets new end (map (operandFields a) (gather d (drop i log)))
+  pub told : sets old at (map (given a) (gather 0 (drop from log))) ≡ sets new end (map (given a) (gather d (drop i log)))
   pub counted : at + length (gather 0 (drop from log)) ≡ end + length (gather d (drop i log))
   pub long : length new ≡ length old
 
@@ -73,58 +58,61 @@ module _ (log : List ℕ) (from a at : ℕ) (old new : List ℕ) (d end i : ℕ)
           shallow = k;
           above = g .above;
           few = omega (arith, g .few);
-          told = g .told ∙ ap (λ l. sets new end (map (operandFields a) l)) same;
+          told = g .told ∙ ap (λ l. sets new end (map (given a) l)) same;
           counted = g .counted ∙ ap (λ l. end + length l) same;
           long = g .long;
         }
 
-  pub passes : 0 < d → (e : ℕ) → e ≡ deeper (word / 1048576) d → e ≤ d + 1 → Giving log from a at old new e end (i + 1)
-  passes p e q k =
-      pass e (ap (gather d) next ∙ gather-deep word (drop (i + 1) log) d p ∙ ap (λ n. gather n (drop (i + 1) log)) (sym q)) (omega (arith, g .shallow))
+  module _ (v : Event) (is : v ≡ eventOf word) where
+    pub passes : 0 < d → (e : ℕ) → e ≡ deeper v d → e ≤ d + 1 → Giving log from a at old new e end (i + 1)
+    passes p e q k =
+        pass e
+        (ap (gather d) next ∙ gather-deep d word (drop (i + 1) log) p ∙ ap (λ n. gather n (drop (i + 1) log)) (ap (λ u. deeper u d) (sym is) ∙ sym q))
+        (omega (arith, g .shallow))
 
-  module _ (z : d ≤ 0) where
-    none : d ≡ 0
-    none = omega arith
+    module _ (z : d ≤ 0) where
+      none : d ≡ 0
+      none = omega arith
 
-    at-top : gather d (drop i log) ≡ gather 0 (word ∷ drop (i + 1) log)
-    at-top = (λ j. gather (none j) (next j))
+      by : (u : Event) → v ≡ u → gather d (drop i log) ≡ gatherBy u (gather 0 (drop (i + 1) log)) (gather 1 (drop (i + 1) log))
+      by u e = (λ j. gather (none j) (next j)) ∙ ap (λ q. gatherBy q (gather 0 (drop (i + 1) log)) (gather 1 (drop (i + 1) log))) (sym is ∙ e)
 
-    pub gives : word / 1048576 ≡ 2 → (new′ : List ℕ) → new′ ≡ set new end (operandFields a (word % 1048576)) → Giving log from a at old new′ d (end + 1) (i + 1)
-    gives k new′ e =
-        let s : gather d (drop i log) ≡ word % 1048576 ∷ gather d (drop (i + 1) log) =
-        at-top ∙ gather-given word (drop (i + 1) log) k ∙ ap (λ n. word % 1048576 ∷ gather n (drop (i + 1) log)) (sym none)
-        in
-        let f = map (operandFields a) (gather d (drop (i + 1) log)) in
-        record {
-          inside = omega arith;
-          since = omega (arith, g .since);
-          shallow = omega arith;
-          above = omega (arith, g .above);
-          few = omega (arith, g .few);
-          told =
-              g .told ∙ ap (λ l. sets new end (map (operandFields a) l)) s
-              ∙ (λ j. sets (sym e j) (sym (add-one end) j) f);
-          counted = g .counted ∙ ap (λ l. end + length l) s ∙ omega arith;
-          long = ap length e ∙ length-set new end (operandFields a (word % 1048576)) ∙ g .long;
-        }
+      pub gives : (t : ℕ) → v ≡ E.Operand t → (new′ : List ℕ) → new′ ≡ set new end (given a t) → Giving log from a at old new′ d (end + 1) (i + 1)
+      gives t f new′ e =
+          let s : gather d (drop i log) ≡ t ∷ gather d (drop (i + 1) log) =
+          by (E.Operand t) f ∙ ap (λ n. t ∷ gather n (drop (i + 1) log)) (sym none)
+          in
+          let m = map (given a) (gather d (drop (i + 1) log)) in
+          record {
+            inside = omega arith;
+            since = omega (arith, g .since);
+            shallow = omega arith;
+            above = omega (arith, g .above);
+            few = omega (arith, g .few);
+            told = g .told ∙ ap (λ l. sets new end (map (given a) l)) s ∙ (λ j. sets (sym e j) (sym (add-one end) j) m);
+            counted = g .counted ∙ ap (λ l. end + length l) s ∙ omega arith;
+            long = ap length e ∙ length-set new end (given a t) ∙ g .long;
+          }
 
-    pub tries : (word / 1048576 ≡ 2 → ⊥) → word ≡ 3145729 → Giving log from a at old new 1 end (i + 1)
-    tries n e = pass 1 (at-top ∙ gather-try word (drop (i + 1) log) n e) (omega arith)
+      pub tries : (p : ℕ) → v ≡ E.Opened p → p ≡ 1 → Giving log from a at old new 1 end (i + 1)
+      tries p f e = pass 1 (by (E.Opened p) f ∙ ap (λ b. cond b (gather 1 (drop (i + 1) log)) []) (eq-eqb p 1 e)) (omega arith)
 
-    pub stops : (word / 1048576 ≡ 2 → ⊥) → (word ≡ 3145729 → ⊥)
-        → (new ≡ sets old at (map (operandFields a) (gather 0 (drop from log)))) × ((end ≡ at + length (gather 0 (drop from log))) × ((at ≤ end) × (end ≤ at + length log)))
-    stops n m =
-        let s = at-top ∙ gather-stop word (drop (i + 1) log) n m in
-        (
-          sym (g .told ∙ ap (λ l. sets new end (map (operandFields a) l)) s),
-          (sym (g .counted ∙ ap (λ l. end + length l) s ∙ omega arith), (g .above, omega (arith, g .few, g .inside))),
-        )
+      ended : gather d (drop i log) ≡ [] → Gave log from a at old new end
+      ended s = (
+        sym (g .told ∙ ap (λ l. sets new end (map (given a) l)) s),
+        (sym (g .counted ∙ ap (λ l. end + length l) s ∙ omega arith), (g .above, omega (arith, g .few, g .inside))),
+      )
+
+      pub opens : (p : ℕ) → v ≡ E.Opened p → (p ≡ 1 → ⊥) → Gave log from a at old new end
+      opens p f n = ended (by (E.Opened p) f ∙ ap (λ b. cond b (gather 1 (drop (i + 1) log)) []) (ne-eqb p 1 n))
+
+      pub stops : (u : Event) → v ≡ u → gatherBy u (gather 0 (drop (i + 1) log)) (gather 1 (drop (i + 1) log)) ≡ [] → Gave log from a at old new end
+      stops u f n = ended (by u f ∙ n)
 
 pub ends : (log : List ℕ) (from a at : ℕ) (old new : List ℕ) (d end i : ℕ) → Giving log from a at old new d end i → length log ≤ i
-    → (new ≡ sets old at (map (operandFields a) (gather 0 (drop from log)))) × ((end ≡ at + length (gather 0 (drop from log))) × ((at ≤ end) × (end ≤ at + length log)))
+    → Gave log from a at old new end
 ends log from a at old new d end i g h =
-    let s = ap (gather d) (drop-of-length-le log h) ∙ gather-past d in
-    (
-      sym (g .told ∙ ap (λ l. sets new end (map (operandFields a) l)) s),
+    let s = ap (gather d) (drop-of-length-le log h) ∙ gather-past d in (
+      sym (g .told ∙ ap (λ l. sets new end (map (given a) l)) s),
       (sym (g .counted ∙ ap (λ l. end + length l) s ∙ omega arith), (g .above, omega (arith, g .few, g .inside))),
     )

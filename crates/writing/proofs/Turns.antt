@@ -1,51 +1,52 @@
 -- What each call that writes an event leaves. Assumes nothing.
-use mathlib.Core.Path.{_≡_, refl, sym, ap, subst, _∙_}
+use mathlib.Core.Path.{_≡_, sym, ap, subst, _∙_}
 use mathlib.Core.Bool.{Bool}
-use mathlib.Core.List.{List, [], _∷_, map}
-use Prim.Native.Nat.{ℕ, zero, suc, _+_, _-_, _*_, _/_, _%_, _≤_, _<_}
+use mathlib.Core.List.{List, _∷_, map}
+use Prim.Native.Nat.{ℕ, _+_, _-_, _≤_, _<_}
 use native.Mathlib.Numerals.{add-one}
 use native.Mathlib.Omega.{arith}
 use lib.ListN.{length, drop, getD, set, drop-of-length-le}
 use lib.Seq.{sets, drop-cons}
 use Rattle.names.specs.declared.ActionName.{ActionName}
-use Rattle.actions.specs.Numbers.{actionAt}
-use Rattle.entries.specs.declared.Held.{Held}
-use Rattle.entries.specs.Fields.{actionFields, actionLevel, operandFields, levelFields, heldIn}
+use Rattle.events.specs.declared.Event.{Event}
+use Rattle.events.specs.Log.{eventOf}
+use Rattle.entries.specs.declared.Action.{Action}
+use Rattle.entries.specs.declared.Net.{Net}
+use Rattle.entries.specs.declared.Level.{Level}
+use Rattle.entries.specs.Entries.{actionWord, actionOf, levelWord}
+use Rattle.entries.specs.Levels.{withAction, ownerOf, levelAt, Small}
 use Rattle.pcode.specs.Deltas.{deltaOf}
-use Rattle.nets.specs.Nets.{firstIsEmpty, nextNet}
+use Rattle.nets.specs.Nets.{firstIsEmpty, movedBy}
 use Rattle.writing.specs.declared.Writer.{Writer}
-use Rattle.writing.specs.Writing.{gather, Written, written, movedLevel, givenIn, acted, opening, openedIn, opened, ownerIn, closing, closed, by, step, steps, start, Small}
+use Rattle.writing.specs.Writing.{gather, given, Written, written, movedLevel, givenIn, acted, opening, openedIn, opened, ownerIn, closing, closed, by, step, steps, Behind}
 
-pub moved-is : (text s ops : List ℕ) (first end n a ℓ : ℕ) (ls : List ℕ) (h : Held) (name : ActionName) (empty : Bool) (net : ℕ) (ls′ : List ℕ)
-    → h ≡ heldIn (getD ls ℓ 0) → name ≡ actionAt n → empty ≡ firstIsEmpty text s ops first end
-    → net ≡ nextNet (h .net) a (deltaOf name (end - first) empty)
-    → ls′ ≡ set ls ℓ (levelFields (h .block) (h .actions + 1) net)
+pub moved-is : (text s ops : List ℕ) (first end : ℕ) (n : ActionName) (a ℓ : ℕ) (ls : List ℕ) (h : Level) (empty : Bool) (net : Net) (ls′ : List ℕ)
+    → h ≡ levelAt ls ℓ → empty ≡ firstIsEmpty text s ops first end → net ≡ movedBy (deltaOf n (end - first) empty) a (h .net)
+    → ls′ ≡ set ls ℓ (levelWord (withAction net (levelAt ls ℓ)))
     → ls′ ≡ movedLevel text s ops first end n a ℓ ls
 unfolding movedLevel
-moved-is text s ops first end n a ℓ ls h name empty net ls′ eh ea ee en el =
-    el
-    ∙ ap (λ q. set ls ℓ (levelFields (h .block) (h .actions + 1) q)) en
-    ∙ (λ j. set ls ℓ (levelFields (eh j .block) (eh j .actions + 1) (nextNet (eh j .net) a (deltaOf (ea j) (end - first) (ee j)))))
+moved-is text s ops first end n a ℓ ls h empty net ls′ eh ee en el =
+    el ∙ ap (λ q. set ls ℓ (levelWord (withAction q (levelAt ls ℓ)))) (en ∙ (λ j. movedBy (deltaOf n (end - first) (ee j)) a (eh j .net)))
 
-pub closing-is : (xs ls : List ℕ) (w r : Writer) (h : Held) (owner level : ℕ) → h ≡ heldIn (getD ls (w .level) 0) → owner ≡ (h .block - 1) / 4
-    → level ≡ actionLevel (getD xs owner 0)
-    → r ≡ record { level = level; action = owner; actions = w .actions; operands = w .operands; levels = w .levels }
-    → r ≡ closing xs ls w
-closing-is xs ls w r h owner level eh eo el er =
-    let o : owner ≡ ownerIn ls (w .level) = eo ∙ ap (λ (q : Held). (q .block - 1) / 4) eh in
-    er ∙ (λ j. record { level = (el ∙ ap (λ q. actionLevel (getD xs q 0)) o) j; action = o j; actions = w .actions; operands = w .operands; levels = w .levels })
+pub closing-is : (xs ls : List ℕ) (w : Writer) (h : Level) (owner : ℕ) (x : Action) → h ≡ levelAt ls (w .level) → owner ≡ ownerOf (h .block)
+    → x ≡ actionOf (getD xs owner 0)
+    → _≡_ {A = Writer} (record { level = x .level; action = owner; actions = w .actions; operands = w .operands; levels = w .levels }) (closing xs ls w)
+closing-is xs ls w h owner x eh eo ex =
+    let o : owner ≡ ownerIn ls (w .level) = eo ∙ ap (λ (q : Level). ownerOf (q .block)) eh in
+    let l = ap (λ (q : Action). q .level) ex ∙ ap (λ q. actionOf (getD xs q 0) .level) o in
+    λ j. record { level = l j; action = o j; actions = w .actions; operands = w .operands; levels = w .levels }
 
-pub acted-is : (text s : List ℕ) (n : ℕ) (rest xs os ls xs′ os′ ls′ : List ℕ) (w : Writer) (end : ℕ)
-    → os′ ≡ sets os (w .operands) (map (operandFields (w .actions)) (gather 0 rest))
+pub acted-is : (text s : List ℕ) (n : ActionName) (rest xs os ls xs′ os′ ls′ : List ℕ) (w : Writer) (end : ℕ)
+    → os′ ≡ sets os (w .operands) (map (given (w .actions)) (gather 0 rest))
     → end ≡ w .operands + length (gather 0 rest)
-    → xs′ ≡ set xs (w .actions) (actionFields n (w .level) (w .operands) (end - w .operands))
+    → xs′ ≡ set xs (w .actions) (actionWord (record { name = n; level = w .level; first = w .operands; count = end - w .operands }))
     → ls′ ≡ movedLevel text s os′ (w .operands) end n (w .actions) (w .level) ls
     → written xs′ os′ ls′ (record { level = w .level; action = w .actions; actions = w .actions + 1; operands = end; levels = w .levels }) ≡ acted text s n rest (written xs os ls w)
 unfolding written acted givenIn
 acted-is text s n rest xs os ls xs′ os′ ls′ w end eo ee ex el =
     let d : end - w .operands ≡ length (gather 0 rest) = omega arith in
     λ j. record {
-      actions = (ex ∙ ap (λ k. set xs (w .actions) (actionFields n (w .level) (w .operands) k)) d) j;
+      actions = (ex ∙ ap (λ k. set xs (w .actions) (actionWord (record { name = n; level = w .level; first = w .operands; count = k }))) d) j;
       operands = eo j;
       levels = (el ∙ (λ k. movedLevel text s (eo k) (w .operands) (ee k) n (w .actions) (w .level) ls)) j;
       at = record { level = w .level; action = w .actions; actions = w .actions + 1; operands = ee j; levels = w .levels };
@@ -59,27 +60,16 @@ pub closed-is : (xs os ls : List ℕ) (w r : Writer) → r ≡ closing xs ls w �
 unfolding written closed
 closed-is xs os ls w r er = λ j. record { actions = xs; operands = os; levels = ls; at = er j }
 
--- ---- by the event's kind
+-- ---- by the event
 
-pub arm : (text s : List ℕ) (w k : ℕ) (rest : List ℕ) (T U : Written) → w / 1048576 ≡ k → U ≡ by text s k (w % 1048576) rest T → U ≡ step text s w rest T
+pub arm : (text s : List ℕ) (w : ℕ) (v u : Event) (rest : List ℕ) (T U : Written) → v ≡ eventOf w → v ≡ u → U ≡ by text s u rest T → U ≡ step text s w rest T
 unfolding step
-arm text s w k rest T U e h = h ∙ ap (λ q. by text s q (w % 1048576) rest T) (sym e)
-
-others : (text s : List ℕ) (k n : ℕ) (rest : List ℕ) (T : Written) → 5 ≤ k → T ≡ by text s k n rest T
-others text s zero n rest T h = absurd (omega arith)
-others text s (suc zero) n rest T h = absurd (omega arith)
-others text s (suc (suc zero)) n rest T h = absurd (omega arith)
-others text s (suc (suc (suc zero))) n rest T h = absurd (omega arith)
-others text s (suc (suc (suc (suc zero)))) n rest T h = absurd (omega arith)
-others text s (suc (suc (suc (suc (suc k))))) n rest T h = refl
-
-pub rest-arm : (text s : List ℕ) (w : ℕ) (rest : List ℕ) (T : Written) → 5 ≤ w / 1048576 → T ≡ step text s w rest T
-rest-arm text s w rest T h = arm text s w (w / 1048576) rest T T refl (others text s (w / 1048576) (w % 1048576) rest T h)
+arm text s w v u rest T U e f h = h ∙ ap (λ q. by text s q rest T) (sym f ∙ e)
 
 -- ---- how far the writer gets
 
-module _ (i : ℕ) (w : Writer) (m : Small i w) (h : i < 65536) where
-  pub wider : Small 65535 w
+module _ (i : ℕ) (w : Writer) (m : Behind i w) (h : i < 65536) where
+  pub wider : Behind 65535 w
   wider =
       record {
         actions = omega (arith, m .actions);
@@ -89,7 +79,7 @@ module _ (i : ℕ) (w : Writer) (m : Small i w) (h : i < 65536) where
         action = m .action;
       }
 
-  pub widest : Small 65536 w
+  pub widest : Behind 65536 w
   widest =
       record {
         actions = omega (arith, m .actions);
@@ -99,7 +89,7 @@ module _ (i : ℕ) (w : Writer) (m : Small i w) (h : i < 65536) where
         action = m .action;
       }
 
-  pub acts-small : (r : Writer) → (r .actions ≡ w .actions + 1) × ((r .operands ≤ w .operands + 65536) × ((r .levels ≡ w .levels) × ((r .level ≡ w .level) × (r .action ≡ w .actions)))) → Small (i + 1) r
+  pub acts-small : (r : Writer) → (r .actions ≡ w .actions + 1) × ((r .operands ≤ w .operands + 65536) × ((r .levels ≡ w .levels) × ((r .level ≡ w .level) × (r .action ≡ w .actions)))) → Behind (i + 1) r
   acts-small r e =
       record {
         actions = omega (arith, e .0, m .actions);
@@ -109,7 +99,7 @@ module _ (i : ℕ) (w : Writer) (m : Small i w) (h : i < 65536) where
         action = omega (arith, e .1 .1 .1 .1, m .actions);
       }
 
-  pub stays-small : Small (i + 1) w
+  pub stays-small : Behind (i + 1) w
   stays-small =
       record {
         actions = omega (arith, m .actions);
@@ -119,9 +109,9 @@ module _ (i : ℕ) (w : Writer) (m : Small i w) (h : i < 65536) where
         action = m .action;
       }
 
-  pub opens-small : (r : Writer) → r ≡ opening w → Small (i + 1) r
+  pub opens-small : (r : Writer) → r ≡ opening w → Behind (i + 1) r
   opens-small r e =
-      subst (Small (i + 1)) (sym e) (record {
+      subst (Behind (i + 1)) (sym e) (record {
         actions = omega (arith, m .actions);
         operands = omega (arith, m .operands);
         levels = omega (arith, m .levels);
@@ -129,7 +119,7 @@ module _ (i : ℕ) (w : Writer) (m : Small i w) (h : i < 65536) where
         action = m .action;
       })
 
-  pub closes-small : (xs ls : List ℕ) (r : Writer) → r ≡ closing xs ls w → r .level < 131072 → r .action < 262144 → Small (i + 1) r
+  pub closes-small : (xs ls : List ℕ) (r : Writer) → r ≡ closing xs ls w → Small (r .level) → Small (r .action) → Behind (i + 1) r
   closes-small xs ls r e f g =
       record {
         actions = omega (arith, ap (λ (q : Writer). q .actions) e, m .actions);
@@ -143,7 +133,7 @@ module _ (i : ℕ) (w : Writer) (m : Small i w) (h : i < 65536) where
 
 pub record Done (text s log xs₀ os₀ ls₀ : List ℕ) (w₀ : Writer) (xs os ls : List ℕ) (w : Writer) (i : ℕ) : Type 0 where
   pub inside : i ≤ length log
-  pub small : Small i w
+  pub small : Behind i w
   pub told : steps text s (drop i log) (written xs os ls w) ≡ steps text s log (written xs₀ os₀ ls₀ w₀)
   pub actions-long : length xs ≡ length xs₀
   pub operands-long : length os ≡ length os₀
@@ -151,7 +141,7 @@ pub record Done (text s log xs₀ os₀ ls₀ : List ℕ) (w₀ : Writer) (xs os
 
 pub again : (text s log xs₀ os₀ ls₀ : List ℕ) (w₀ : Writer) (xs os ls : List ℕ) (w : Writer) (i : ℕ) → Done text s log xs₀ os₀ ls₀ w₀ xs os ls w i → i < length log
     → (xs′ os′ ls′ : List ℕ) (r : Writer)
-    → written xs′ os′ ls′ r ≡ step text s (getD log i 0) (drop (i + 1) log) (written xs os ls w) → Small (i + 1) r
+    → written xs′ os′ ls′ r ≡ step text s (getD log i 0) (drop (i + 1) log) (written xs os ls w) → Behind (i + 1) r
     → length xs′ ≡ length xs → length os′ ≡ length os → length ls′ ≡ length ls
     → Done text s log xs₀ os₀ ls₀ w₀ xs′ os′ ls′ r (i + 1)
 again text s log xs₀ os₀ ls₀ w₀ xs os ls w i d h xs′ os′ ls′ r e m a b f =

@@ -1,22 +1,30 @@
 // Actions, operands and levels of a log, written straight into the lent tables: an action with its operands when it comes, a level
 // when it opens, and with each of its actions once more.
 use actions::action_at;
-use entries::action_level;
-use entries::held_in;
+use entries::Action;
+use entries::Operand;
+use entries::action_in;
+use entries::add_action;
+use entries::level_at;
+use entries::open_level;
+use entries::open_top;
+use entries::owner_of;
 use entries::put_action;
-use entries::put_level;
 use entries::put_operand;
+use events::Event;
+use events::event_of;
+use names::ActionName;
 use nets::first_is_empty;
 use nets::next_net;
 ghost use mathlib.Core.Path.{_≡_};
-ghost use Prim.Native.Nat.{_+_, _-_, _/_, _≤_, _<_};
+ghost use Prim.Native.Nat.{_+_, _≤_, _<_};
 ghost use mathlib.Core.List.{map};
 ghost use lib.ListN.{length, drop, getD};
 ghost use lib.Seq.{sets};
-ghost use Rattle.entries.specs.Fields.{operandFields};
-ghost use Rattle.writing.specs.Writing.{deeper, gather, Small, written, movedLevel, acted, opening, openedIn, closing, step, Writes};
+ghost use Rattle.entries.specs.Levels.{Small};
+ghost use Rattle.writing.specs.Writing.{deeper, gather, given, Behind, written, movedLevel, acted, opening, openedIn, closing, step, Writes};
 
-// How many entries are written, the level that is open and the action that came last.
+// The level that is open, the action that came last, and how many entries are written.
 pub struct Writer {
     pub level: usize,
     pub action: usize,
@@ -25,35 +33,25 @@ pub struct Writer {
     pub levels: usize,
 }
 
-// The kinds of events: an action, a label, an operand, a block that opens, a level that closes.
-const GIVEN: u64 = 2;
-
-const OPENED: u64 = 3;
-
-const CLOSED: u64 = 4;
-
-// A try block that opens. A target is logged behind it, since only there it is known to be kept.
-const OPENED_TRY: u64 = 3145729;
-
 // How many blocks are open behind an event, of those that are passed over.
-fn deeper(kind: u64, depth: usize) -> usize
+fn deeper(event: Event, depth: usize) -> usize
     requires { ⌜ (0 < depth) × (depth ≤ 65536) ⌝ }
-    ensures { λ r. ⌜ r ≡ deeper kind depth ⌝ }
-    ensures { λ r. ⌜ r ≤ depth + 1 ⌝ }
+    ensures { λ r. ⌜ (r ≡ deeper event depth) × (r ≤ depth + 1) ⌝ }
 {
-    if kind == OPENED {
-        return depth + 1;
+    match event {
+        Event::Action(_) => depth,
+        Event::Label(_) => depth,
+        Event::Operand(_) => depth,
+        Event::Opened(_) => depth + 1,
+        Event::Closed => depth - 1,
     }
-    if kind == CLOSED {
-        return depth - 1;
-    }
-    depth
 }
 
-// The operands of the action whose event stands before `from`, from place `at` on; the place behind them.
+// The operands of the action whose event stands before `from`, from place `at` on; the place behind them. A Try's target is logged
+// behind its try block, since only there it is known to be kept; so that block is passed over.
 fn give_operands(log: &[u64], from: usize, action: usize, at: usize, operands: &mut [u64]) -> usize
-    requires { ⌜ (length (now log) ≤ 65536) × ((from ≤ length (now log)) × ((action ≤ 65536) × (at ≤ 4294967296))) ⌝ }
-    ensures { λ r. ⌜ now (operands .exit) ≡ sets (now (operands .entry)) at (map (operandFields action) (gather 0 (drop from (now (log .entry))))) ⌝ }
+    requires { ⌜ (length (now log) ≤ 65536) × ((from ≤ length (now log)) × (Small action × (at ≤ 4294967296))) ⌝ }
+    ensures { λ r. ⌜ now (operands .exit) ≡ sets (now (operands .entry)) at (map (given action) (gather 0 (drop from (now (log .entry))))) ⌝ }
     ensures { λ r. ⌜ r ≡ at + length (gather 0 (drop from (now (log .entry)))) ⌝ }
     ensures { λ r. ⌜ (at ≤ r) × (r ≤ at + length (now (log .entry))) ⌝ }
 {
@@ -61,23 +59,33 @@ fn give_operands(log: &[u64], from: usize, action: usize, at: usize, operands: &
     let mut end = at;
     let mut i = from;
     while i < log.len() {
-        let word = log[i];
+        let event = event_of(log[i]);
         i += 1;
-        let kind = word / 1048576;
         if 0 < depth {
-            depth = deeper(kind, depth);
+            depth = deeper(event, depth);
             continue;
         }
-        if kind == GIVEN {
-            put_operand(operands, end, action, word % 1048576);
-            end += 1;
-            continue;
+        match event {
+            Event::Operand(token) => {
+                let operand = Operand {
+                    action,
+                    token: token as usize,
+                };
+                put_operand(operands, end, operand);
+                end += 1;
+                continue;
+            }
+            Event::Opened(part) => {
+                if part != 1 {
+                    return end;
+                }
+                depth = 1;
+                continue;
+            }
+            Event::Action(_) => return end,
+            Event::Label(_) => return end,
+            Event::Closed => return end,
         }
-        if word != OPENED_TRY {
-            return end;
-        }
-        depth = 1;
-        continue;
     }
     end
 }
@@ -89,19 +97,19 @@ fn move_level(
     operands: &[u64],
     first: usize,
     end: usize,
-    number: u64,
+    name: ActionName,
     action: usize,
     level: usize,
     levels: &mut [u64],
 )
     requires { ⌜ (action ≤ 65536) × ((first ≤ end) × (end ≤ first + 65536)) ⌝ }
-    ensures { λ _. ⌜ now (levels .exit) ≡ movedLevel (now (text .entry)) (now (s .entry)) (now (operands .entry)) first end number action level (now (levels .entry)) ⌝ }
+    ensures { λ _. ⌜ now (levels .exit) ≡ movedLevel (now (text .entry)) (now (s .entry)) (now (operands .entry)) first end name action level (now (levels .entry)) ⌝ }
 {
-    let held = held_in(levels, level);
-    let name = action_at(number as usize);
+    let held = level_at(levels, level);
+    let before = held.net;
     let empty = first_is_empty(text, s, operands, first, end);
-    let net = next_net(held.net, action, name, end - first, empty);
-    put_level(levels, level, held.block, held.actions + 1, net);
+    let net = next_net(before, action, name, end - first, empty);
+    add_action(levels, level, net);
 }
 
 fn act(
@@ -109,22 +117,28 @@ fn act(
     s: &[u64],
     log: &[u64],
     from: usize,
-    number: u64,
+    name: ActionName,
     w: Writer,
     actions: &mut [u64],
     operands: &mut [u64],
     levels: &mut [u64],
 ) -> Writer
-    requires { ⌜ (length (now log) ≤ 65536) × ((from ≤ length (now log)) × ((number < 1048576) × Small 65535 w)) ⌝ }
-    ensures { λ r. ⌜ written (now (actions .exit)) (now (operands .exit)) (now (levels .exit)) r ≡ acted (now (text .entry)) (now (s .entry)) number (drop from (now (log .entry))) (written (now (actions .entry)) (now (operands .entry)) (now (levels .entry)) w) ⌝ }
+    requires { ⌜ (length (now log) ≤ 65536) × ((from ≤ length (now log)) × Behind 65535 w) ⌝ }
+    ensures { λ r. ⌜ written (now (actions .exit)) (now (operands .exit)) (now (levels .exit)) r ≡ acted (now (text .entry)) (now (s .entry)) name (drop from (now (log .entry))) (written (now (actions .entry)) (now (operands .entry)) (now (levels .entry)) w) ⌝ }
     ensures { λ r. ⌜ (r .actions ≡ w .actions + 1) × ((r .operands ≤ w .operands + 65536) × ((r .levels ≡ w .levels) × ((r .level ≡ w .level) × (r .action ≡ w .actions)))) ⌝ }
 {
     let level = w.level;
     let a = w.actions;
     let first = w.operands;
     let end = give_operands(log, from, a, first, operands);
-    put_action(actions, a, number, level, first, end - first);
-    move_level(text, s, operands, first, end, number, a, level, levels);
+    let action = Action {
+        name,
+        level,
+        first,
+        count: end - first,
+    };
+    put_action(actions, a, action);
+    move_level(text, s, operands, first, end, name, a, level, levels);
     Writer {
         level,
         action: a,
@@ -135,11 +149,11 @@ fn act(
 }
 
 fn open(part: u64, w: Writer, levels: &mut [u64]) -> Writer
-    requires { ⌜ (part < 1048576) × Small 65536 w ⌝ }
+    requires { ⌜ Behind 65536 w ⌝ }
     ensures { λ r. ⌜ r ≡ opening w ⌝ }
     ensures { λ _. ⌜ now (levels .exit) ≡ openedIn (now (levels .entry)) w part ⌝ }
 {
-    put_level(levels, w.levels, w.action as u64 * 4 + part + 1, 0, 196608);
+    open_level(levels, w.levels, part, w.action);
     Writer {
         level: w.levels,
         action: w.action,
@@ -149,26 +163,17 @@ fn open(part: u64, w: Writer, levels: &mut [u64]) -> Writer
     }
 }
 
-fn owner_of(block: u64) -> usize
-    requires { ⌜ block < 1048576 ⌝ }
-    ensures { λ r. ⌜ (r ≡ (block - 1) / 4) × (r < 262144) ⌝ }
-{
-    if block == 0 {
-        return 0;
-    }
-    ((block - 1) / 4) as usize
-}
-
 // Back to the action that owns the level, and to that action's level.
 fn close(w: Writer, actions: &[u64], levels: &[u64]) -> Writer
     ensures { λ r. ⌜ r ≡ closing (now (actions .entry)) (now (levels .entry)) w ⌝ }
-    ensures { λ r. ⌜ (r .level < 131072) × (r .action < 262144) ⌝ }
+    ensures { λ r. ⌜ Small (r .level) × Small (r .action) ⌝ }
 {
-    let held = held_in(levels, w.level);
-    let owner = owner_of(held.block);
-    let level = action_level(actions, owner);
+    let held = level_at(levels, w.level);
+    let block = held.block;
+    let owner = owner_of(block);
+    let action = action_in(actions, owner);
     Writer {
-        level,
+        level: action.level,
         action: owner,
         actions: w.actions,
         operands: w.operands,
@@ -187,19 +192,20 @@ fn write_event(
     operands: &mut [u64],
     levels: &mut [u64],
 ) -> Writer
-    requires { ⌜ (length (now log) ≤ 65536) × ((i < length (now log)) × Small i w) ⌝ }
+    requires { ⌜ (length (now log) ≤ 65536) × ((i < length (now log)) × Behind i w) ⌝ }
     ensures { λ r. ⌜ written (now (actions .exit)) (now (operands .exit)) (now (levels .exit)) r ≡ step (now (text .entry)) (now (s .entry)) (getD (now (log .entry)) i 0) (drop (i + 1) (now (log .entry))) (written (now (actions .entry)) (now (operands .entry)) (now (levels .entry)) w) ⌝ }
-    ensures { λ r. ⌜ Small (i + 1) r ⌝ }
+    ensures { λ r. ⌜ Behind (i + 1) r ⌝ }
 {
-    let word = log[i];
-    let holds = word % 1048576;
-    match word / 1048576 {
-        0 => act(text, s, log, i + 1, holds, w, actions, operands, levels),
-        1 => w,
-        2 => w,
-        3 => open(holds, w, levels),
-        4 => close(w, actions, levels),
-        _ => w,
+    let event = event_of(log[i]);
+    match event {
+        Event::Action(number) => {
+            let name = action_at(number as usize);
+            act(text, s, log, i + 1, name, w, actions, operands, levels)
+        }
+        Event::Label(_) => w,
+        Event::Operand(_) => w,
+        Event::Opened(part) => open(part, w, levels),
+        Event::Closed => close(w, actions, levels),
     }
 }
 
@@ -215,7 +221,7 @@ pub fn write_tables(
     requires { ⌜ length (now log) ≤ 65536 ⌝ }
     ensures { λ _. ⌜ Writes (now (text .entry)) (now (s .entry)) (now (log .entry)) (now (actions .entry)) (now (operands .entry)) (now (levels .entry)) (now (actions .exit)) (now (operands .exit)) (now (levels .exit)) ⌝ }
 {
-    put_level(levels, 0, 0, 0, 196608);
+    open_top(levels);
     let mut w = Writer {
         level: 0,
         action: 0,

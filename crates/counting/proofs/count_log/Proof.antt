@@ -1,7 +1,6 @@
 -- `counting::count_log` meets its contract. Assumes nothing.
 use borrow.Author.Needs.{needs}
 use Prim.Native.Nat.{_-_}
-use native.Mathlib.Omega.{arith}
 use lib.ListN.{length}
 use Rattle.counting.proofs.Counts.{Done, begins, again, ended}
 use Rattle.counting.proofs.count_log.Statement.{statement}

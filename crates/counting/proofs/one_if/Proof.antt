@@ -9,5 +9,6 @@ pub one-if-spec : {M : Type 1} → statement M
 one-if-spec =
     tie.close
     (tie.spec
-    (λ c. (one _ _ (c .if1 .taken), omega arith))
-    (λ c. (zero-if _ _ (c .if1 .left), omega arith)))
+    (λ c κs. search needs)
+    (λ c. (one _ _ (c .before .kind-of .ensures) (c .if1 .taken), omega arith))
+    (λ c. (zero-if _ _ (c .before .kind-of .ensures) (c .if1 .left), omega arith)))

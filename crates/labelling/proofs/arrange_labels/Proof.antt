@@ -3,7 +3,7 @@ use borrow.Author.Needs.{needs}
 use mathlib.Core.Path.{sym}
 use native.Mathlib.Omega.{arith}
 use lib.Seq.{length-take-le}
-use Rattle.reading.proofs.Arranging.{labels-arranged}
+use Rattle.labelling.proofs.Arranging.{labels-arranged}
 use Rattle.labelling.proofs.arrange_labels.Statement.{statement}
 use Rattle.labelling.proofs.arrange_labels.Tie as tie
 

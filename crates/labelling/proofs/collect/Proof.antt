@@ -1,7 +1,7 @@
 -- `labelling::collect` meets its contract. Assumes nothing.
 use borrow.Author.Needs.{needs}
 use mathlib.Core.Path.{refl, ap, _∙_}
-use Prim.Native.Nat.{ℕ, _-_}
+use Prim.Native.Nat.{_-_}
 use native.Mathlib.Omega.{arith}
 use lib.ListN.{length, length-set}
 use Rattle.labelling.specs.Naming.{steps, naming}
@@ -18,10 +18,14 @@ abbrev μ-loop : tie.MeasureT-loop
 loop-holds : tie.Need-loop-holds Inv-loop μ-loop
 loop-holds c = record { inside = omega arith; few = record { level = omega arith; levels = omega arith; labels = omega arith }; told = refl; own-long = refl; named-long = refl }
 
+name-event-requires : tie.Need-name-event-requires Inv-loop μ-loop
+name-event-requires c κs =
+    (wider _ _ (omega (arith, c .before .before .before .before .before .loop .inv .inside, c .before .before .before .before .before .before .before .before .before .before .before .before .before .pre)) (c .before .before .before .before .before .loop .inv .few), c .before .before .event-of .ensures .1)
+
 loop-again : tie.Need-loop-again Inv-loop μ-loop
 loop-again c =
     let e = c .before .before .before .before .name-event .ensures in
-    again _ _ _ _ _ _ _ _ (c .before .before .before .before .before .before .before .before .before .loop .inv) (c .before .before .before .before .before .before .before .before .loop-test .taken) _ _ _ (e .0) (e .1) (search needs) (search needs)
+    again _ _ _ _ _ _ _ _ (c .before .before .before .before .before .before .before .before .before .before .loop .inv) (c .before .before .before .before .before .before .before .before .before .loop-test .taken) _ (c .before .before .before .before .before .before .before .event-of .ensures .0) _ _ _ (e .0) (e .1) (search needs) (search needs)
 
 returns : tie.Need-returns Inv-loop μ-loop
 returns c =
@@ -30,7 +34,7 @@ returns c =
       at = _;
       all =
           ended _ _ _ _ _ _ _ _ (c .before .loop .inv) (c .loop-test .left)
-          ∙ ap (λ l. steps (a .log .now) (naming l (a .named .now) (record { level = 0; levels = 1; labels = 0 }))) (c .before .before .before .before .store .ensures);
+          ∙ ap (λ l. steps (a .log .now) (naming l (a .named .now) (record { level = 0; levels = 1; labels = 0 }))) (c .before .before .before .before .open-top .ensures);
     }
 
 pub collect-spec : {M : Type 1} → statement M
@@ -43,10 +47,11 @@ collect-spec =
     loop-holds
     (λ c. search needs)
     (λ c. search needs)
-    (λ c κs. wider _ _ (omega (arith, c .before .before .before .before .loop .inv .inside, c .before .before .before .before .before .before .before .before .before .before .before .before .pre)) (c .before .before .before .before .loop .inv .few))
+    (λ c κs. search needs)
+    name-event-requires
     (λ c. search needs)
     (λ c. search needs)
     loop-again
-    (λ c. c .before .loop .inv .own-long ∙ ap length (c .before .before .before .before .store .ensures) ∙ length-set {A = ℕ} (c .before .before .before .before .before .before .before .before .before .args .own .now) 0 0)
+    (λ c. c .before .loop .inv .own-long ∙ ap length (c .before .before .before .before .open-top .ensures) ∙ simp length-set)
     (λ c. c .before .loop .inv .named-long)
     returns)

@@ -1,41 +1,48 @@
 -- `labelling::name_event` meets its contract. Assumes nothing.
 use borrow.Author.Needs.{needs}
-use mathlib.Core.Path.{refl}
+use mathlib.Core.Path.{refl, sym, subst}
 use native.Mathlib.Omega.{arith}
-use Rattle.laws.proofs.Rest.{rest}
-use Rattle.labelling.proofs.Turns.{acted-is, name-is, opened-is, closed-is, arm, rest-arm}
+use Rattle.events.specs.Log.{Holds}
+use Rattle.entries.specs.Levels.{Small}
+use Rattle.labelling.proofs.Turns.{acted-is, name-is, opened-is, closed-is, arm}
 use Rattle.labelling.proofs.name_event.Statement.{statement}
 use Rattle.labelling.proofs.name_event.Tie as tie
 
+put-label-requires : tie.Need-put-label-requires
+put-label-requires c κs =
+    let p = c .before .before .before .before .before .before .before .before .pre in
+    (omega (arith, p .0 .level), (c .before .before .before .before .level-at .ensures .1 .actions, subst Holds (c .before .before .event .given .1) (p .1)))
+
 returns : tie.Need-returns
 returns c =
-    let a = c .before .before .before .before .before .before .before .before .before .args in
-    let p = c .before .before .before .before .before .before .before .before .before .pre in
-    (arm _ 0 _ _ (c .before .before .before .before .match .keys1) (acted-is (a .own .now) (a .named .now) (a .n) (c .before .before .before .before .before .load .result) (c .before .before .before .before .before .load .ensures) _ (c .before .before .store .ensures)),
-    (omega arith, (omega arith, p .level)))
+    let a = c .before .before .before .before .before .before .before .before .before .before .args in (
+      arm _ _ _ _ (c .before .before .before .before .enum-told .given .1) (acted-is (a .own .now) (a .named .now) (a .n) _ (c .before .before .add-action .ensures)),
+      (omega arith, (omega arith, c .before .before .before .before .before .before .before .before .before .before .pre .0 .level)),
+    )
 
 returns-2 : tie.Need-returns-2
 returns-2 c =
-    let a = c .before .before .before .before .before .before .before .before .before .before .args in
-    let p = c .before .before .before .before .before .before .before .before .before .before .pre in
-    (arm _ 1 _ _ (c .before .before .before .before .before .match .keys2) (name-is (a .own .now) (a .named .now) (a .n) (c .before .before .before .before .before .before .load .result) (c .before .before .before .before .before .before .load .ensures) _ _ (c .before .before .before .put-label .ensures)),
-    (omega arith, (omega arith, p .level)))
+    let a = c .before .before .before .before .before .before .before .before .before .before .before .before .args in (
+      arm _ _ _ _ (c .before .before .before .before .before .before .event .given .1) (name-is (a .own .now) (a .named .now) (a .n) _ (c .before .before .before .before .before .before .before .before .level-at .ensures .0) _ _ (c .before .before .before .put-label .ensures)),
+      (omega arith, (omega arith, c .before .before .before .before .before .before .before .before .before .before .before .before .pre .0 .level)),
+    )
 
 returns-3 : tie.Need-returns-3
-returns-3 c = (arm _ 2 _ _ (c .match .keys3) refl, (omega arith, (omega arith, c .before .before .before .before .before .pre .level)))
+returns-3 c = (arm _ _ _ _ (c .enum-told2 .given .1) refl, (omega arith, (omega arith, c .before .before .before .before .before .before .pre .0 .level)))
 
 returns-4 : tie.Need-returns-4
 returns-4 c =
-    let a = c .before .before .before .before .before .before .before .before .before .before .args in
-    let p = c .before .before .before .before .before .before .before .before .before .before .pre in
-    (arm _ 3 _ _ (c .before .before .before .before .before .match .keys4) (opened-is (a .own .now) (a .named .now) (a .n) _ (c .before .before .before .store2 .ensures)),
-    (omega arith, (omega arith, omega (arith, p .levels))))
+    let a = c .before .before .before .before .before .before .before .before .before .before .before .args in (
+      arm _ _ _ _ (c .before .before .before .before .before .enum-told3 .given .1) (opened-is (a .own .now) (a .named .now) (a .n) _ (c .before .before .before .open-level .ensures)),
+      (omega arith, (omega arith, omega (arith, c .before .before .before .before .before .before .before .before .before .before .before .pre .0 .levels))),
+    )
 
 returns-5 : tie.Need-returns-5
 returns-5 c =
-    let a = c .before .before .before .before .before .args in
-    (rest-arm _ _ _ (rest _ 4 (c .match .rest)) (closed-is (a .own .now) (a .named .now) (a .n) (c .before .load .result) (c .before .load .ensures)),
-    (omega arith, (omega arith, omega arith)))
+    let a = c .before .before .before .before .before .before .before .args in (
+      arm _ _ _ _ (c .before .enum-told4 .given .1) (closed-is (a .own .now) (a .named .now) (a .n) _ (c .before .before .before .level-at .ensures .0) _ (c .owner-of .ensures)),
+      (omega arith, (omega arith, subst Small (sym (c .owner-of .ensures)) (c .before .before .before .level-at .ensures .1 .owner))),
+    )
 
 pub name-event-spec : {M : Type 1} → statement M
 name-event-spec =
@@ -44,11 +51,15 @@ name-event-spec =
     (λ c κs. search needs)
     (λ c. search needs)
     (λ c κs. search needs)
-    (λ c κs. let p = c .before .before .before .before .before .before .pre in (p .level, (omega arith, omega arith)))
-    (λ c. omega (arith, c .before .before .before .before .before .before .before .before .before .before .pre .labels))
+    (λ c. search needs)
+    put-label-requires
+    (λ c. omega (arith, c .before .before .before .before .before .before .before .before .before .before .before .before .pre .0 .labels))
+    (λ c. search needs)
+    (λ c. search needs)
+    (λ c κs. c .before .before .before .before .before .before .before .pre .0 .level)
+    (λ c. omega (arith, c .before .before .before .before .before .before .before .before .before .before .before .pre .0 .levels))
     (λ c. search needs)
     (λ c κs. search needs)
-    (λ c. omega (arith, c .before .before .before .before .before .before .before .before .before .before .pre .levels))
     (λ c. search needs)
     returns
     (λ c. search needs)

@@ -1,6 +1,5 @@
 -- `labelling::put_over` meets its contract. Assumes nothing.
 use borrow.Author.Needs.{needs}
-use native.Mathlib.Omega.{arith}
 use Rattle.labelling.proofs.Over.{merged-fits, labels-asked, short, put}
 use Rattle.labelling.proofs.put_over.Statement.{statement}
 use Rattle.labelling.proofs.put_over.Tie as tie

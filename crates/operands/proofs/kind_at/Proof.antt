@@ -1,6 +1,6 @@
 -- `operands::kind_at` meets its contract. Assumes nothing.
 use borrow.Author.Needs.{needs}
-use Rattle.operands.proofs.OneToken.{kind-low, kind-high, kind-past}
+use Rattle.operands.proofs.OneToken.{kind-is, kind-past}
 use Rattle.operands.proofs.kind_at.Statement.{statement}
 use Rattle.operands.proofs.kind_at.Tie as tie
 
@@ -10,6 +10,6 @@ kind-at-spec =
     (tie.spec
     (λ c. search needs)
     (λ c. search needs)
-    (λ c. search kind-low)
-    (λ c. search kind-high)
+    (λ c κs. search needs)
+    (λ c. kind-is _ _ (search needs) (c .kind-place .ensures))
     (λ c. search kind-past))

@@ -1,7 +1,8 @@
 -- `writing::deeper` meets its contract. Assumes nothing.
 use borrow.Author.Needs.{needs}
+use mathlib.Core.Path.{sym, ap}
 use native.Mathlib.Omega.{arith}
-use Rattle.writing.proofs.Gather.{deeper-opened, deeper-closed, deeper-other}
+use Rattle.writing.specs.Writing.{deeper}
 use Rattle.writing.proofs.deeper.Statement.{statement}
 use Rattle.writing.proofs.deeper.Tie as tie
 
@@ -10,7 +11,14 @@ deeper-spec =
     tie.close
     (tie.spec
     (λ c. search needs)
-    (λ c. (deeper-opened _ _ (c .if1 .taken), omega arith))
     (λ c. search needs)
-    (λ c. (deeper-closed _ _ (c .before .if1 .left) (c .if2 .taken), omega arith))
-    (λ c. (deeper-other _ _ (c .before .if1 .left) (c .if2 .left), omega arith)))
+    (λ c. search needs)
+    (λ c. search needs)
+    (λ c. search needs)
+    (λ c. search needs)
+    (λ c. search needs)
+    (λ c. search needs)
+    (λ c. search needs)
+    (λ c. search needs)
+    (λ c. (sym (ap (λ v. deeper v (c .before .before .args .depth)) (c .enum-told4 .given .1)), omega arith))
+    (λ c. (sym (ap (λ v. deeper v (c .before .before .args .depth)) (c .enum-told5 .given .1)), omega arith)))

@@ -1,9 +1,11 @@
 -- `writing::give_operands` meets its contract. Assumes nothing.
 use borrow.Author.Needs.{needs}
+use mathlib.Core.Path.{refl, subst}
 use Prim.Native.Nat.{_-_}
 use native.Mathlib.Omega.{arith}
 use lib.ListN.{length}
-use Rattle.writing.proofs.Gather.{Giving, begins, passes, gives, tries, stops, ends}
+use Rattle.events.specs.Log.{Holds}
+use Rattle.writing.proofs.Gather.{Giving, begins, passes, gives, tries, opens, stops, ends}
 use Rattle.writing.proofs.give_operands.Statement.{statement}
 use Rattle.writing.proofs.give_operands.Tie as tie
 
@@ -17,28 +19,37 @@ loop-holds : tie.Need-loop-holds Inv-loop μ-loop
 loop-holds c = begins _ _ _ _ _ (c .before .before .pre .1 .0)
 
 deeper-requires : tie.Need-deeper-requires Inv-loop μ-loop
-deeper-requires c κs = (c .if1 .taken, omega (arith, c .before .before .before .loop .inv .shallow, c .before .before .before .loop .inv .inside, c .before .before .before .before .before .before .pre .0))
+deeper-requires c κs = (c .if1 .taken, omega (arith, c .before .before .before .before .loop .inv .shallow, c .before .before .before .before .loop .inv .inside, c .before .before .before .before .before .before .before .pre .0))
 
 loop-again : tie.Need-loop-again Inv-loop μ-loop
-loop-again c = passes _ _ _ _ _ _ _ _ _ (c .before .before .before .before .loop .inv) (c .before .before .before .loop-test .taken) (c .before .if1 .taken) _ (c .deeper .ensures .0) (c .deeper .ensures .1)
+loop-again c = passes _ _ _ _ _ _ _ _ _ (c .before .before .before .before .before .loop .inv) (c .before .before .before .before .loop-test .taken) _ (c .before .before .event-of .ensures .0) (c .before .if1 .taken) _ (c .deeper .ensures .0) (c .deeper .ensures .1)
 
 put-operand-requires : tie.Need-put-operand-requires Inv-loop μ-loop
-put-operand-requires c κs = (c .before .before .before .before .before .before .before .before .pre .1 .1 .0, omega arith)
+put-operand-requires c κs = (c .before .before .before .before .before .before .before .before .before .before .before .pre .1 .1 .0, subst Holds (c .before .before .event .given .1) (c .before .before .before .before .before .event-of .ensures .1))
 
 add-end : tie.Need-add-end Inv-loop μ-loop
-add-end c = omega (arith, c .before .before .before .before .before .before .before .before .loop .inv .few, c .before .before .before .before .before .before .before .before .loop .inv .inside, c .before .before .before .before .before .before .before .before .before .before .before .pre .0, c .before .before .before .before .before .before .before .before .before .before .before .pre .1 .1 .1)
+add-end c = omega (arith, c .before .before .before .before .before .before .before .before .before .before .before .loop .inv .few, c .before .before .before .before .before .before .before .before .before .before .before .loop .inv .inside, c .before .before .before .before .before .before .before .before .before .before .before .before .before .before .pre .0, c .before .before .before .before .before .before .before .before .before .before .before .before .before .before .pre .1 .1 .1)
 
 loop-again-2 : tie.Need-loop-again-2 Inv-loop μ-loop
-loop-again-2 c = gives _ _ _ _ _ _ _ _ _ (c .before .before .before .before .before .before .before .before .loop .inv) (c .before .before .before .before .before .before .before .loop-test .taken) (c .before .before .before .before .before .if1 .left) (c .before .before .before .before .if2 .taken) _ (c .before .before .put-operand .ensures)
+loop-again-2 c = gives _ _ _ _ _ _ _ _ _ (c .before .before .before .before .before .before .before .before .before .before .before .loop .inv) (c .before .before .before .before .before .before .before .before .before .before .loop-test .taken) _ (c .before .before .before .before .before .before .before .before .event-of .ensures .0) (c .before .before .before .before .before .before .before .if1 .left) _ (c .before .before .before .before .before .event .given .1) _ (c .before .before .put-operand .ensures)
 
 returns : tie.Need-returns Inv-loop μ-loop
-returns c = stops _ _ _ _ _ _ _ _ _ (c .before .before .before .before .before .loop .inv) (c .before .before .before .before .loop-test .taken) (c .before .before .if1 .left) (c .before .if2 .left) (c .if3 .taken)
+returns c = opens _ _ _ _ _ _ _ _ _ (c .before .before .before .before .before .before .before .before .loop .inv) (c .before .before .before .before .before .before .before .loop-test .taken) _ (c .before .before .before .before .before .event-of .ensures .0) (c .before .before .before .before .if1 .left) _ (c .before .before .event2 .given .1) (c .if2 .taken)
 
 loop-again-3 : tie.Need-loop-again-3 Inv-loop μ-loop
-loop-again-3 c = tries _ _ _ _ _ _ _ _ _ (c .before .before .before .before .before .loop .inv) (c .before .before .before .before .loop-test .taken) (c .before .before .if1 .left) (c .before .if2 .left) (c .if3 .left)
+loop-again-3 c = tries _ _ _ _ _ _ _ _ _ (c .before .before .before .before .before .before .before .before .loop .inv) (c .before .before .before .before .before .before .before .loop-test .taken) _ (c .before .before .before .before .before .event-of .ensures .0) (c .before .before .before .before .if1 .left) _ (c .before .before .event2 .given .1) (c .if2 .left)
 
 returns-2 : tie.Need-returns-2 Inv-loop μ-loop
-returns-2 c = ends _ _ _ _ _ _ _ _ _ (c .before .loop .inv) (c .loop-test .left)
+returns-2 c = stops _ _ _ _ _ _ _ _ _ (c .before .before .before .before .before .before .loop .inv) (c .before .before .before .before .before .loop-test .taken) _ (c .before .before .before .event-of .ensures .0) (c .before .before .if1 .left) _ (c .enum-told .given .1) refl
+
+returns-3 : tie.Need-returns-3 Inv-loop μ-loop
+returns-3 c = stops _ _ _ _ _ _ _ _ _ (c .before .before .before .before .before .before .loop .inv) (c .before .before .before .before .before .loop-test .taken) _ (c .before .before .before .event-of .ensures .0) (c .before .before .if1 .left) _ (c .enum-told2 .given .1) refl
+
+returns-4 : tie.Need-returns-4 Inv-loop μ-loop
+returns-4 c = stops _ _ _ _ _ _ _ _ _ (c .before .before .before .before .before .before .loop .inv) (c .before .before .before .before .before .loop-test .taken) _ (c .before .before .before .event-of .ensures .0) (c .before .before .if1 .left) _ (c .enum-told3 .given .1) refl
+
+returns-5 : tie.Need-returns-5 Inv-loop μ-loop
+returns-5 c = ends _ _ _ _ _ _ _ _ _ (c .before .loop .inv) (c .loop-test .left)
 
 pub give-operands-spec : {M : Type 1} → statement M
 give-operands-spec =
@@ -49,17 +60,29 @@ give-operands-spec =
     loop-holds
     (λ c. search needs)
     (λ c. search needs)
+    (λ c κs. search needs)
     (λ c. search needs)
     deeper-requires
     (λ c. search needs)
     loop-again
+    (λ c. search needs)
     put-operand-requires
     add-end
     (λ c. search needs)
     loop-again-2
-    (λ c. c .before .before .before .before .before .loop .inv .long)
+    (λ c. search needs)
+    (λ c. c .before .before .before .before .before .before .before .before .loop .inv .long)
     returns
     (λ c. search needs)
     loop-again-3
+    (λ c. search needs)
+    (λ c. c .before .before .before .before .before .before .loop .inv .long)
+    returns-2
+    (λ c. search needs)
+    (λ c. c .before .before .before .before .before .before .loop .inv .long)
+    returns-3
+    (λ c. search needs)
+    (λ c. c .before .before .before .before .before .before .loop .inv .long)
+    returns-4
     (λ c. c .before .loop .inv .long)
-    returns-2)
+    returns-5)

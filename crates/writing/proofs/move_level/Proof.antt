@@ -1,15 +1,14 @@
 -- `writing::move_level` meets its contract. Assumes nothing.
 use borrow.Author.Needs.{needs}
-use native.Mathlib.Omega.{arith}
 use Rattle.writing.proofs.Turns.{moved-is}
 use Rattle.writing.proofs.move_level.Statement.{statement}
 use Rattle.writing.proofs.move_level.Tie as tie
 
 returns : tie.Need-returns
 returns c =
-    let a = c .before .before .before .before .before .before .before .before .before .before .before .before .before .before .args in
-    moved-is _ _ _ (a .first) (a .end) _ _ _ _ (c .before .before .before .before .before .before .before .before .held-in .result) (c .before .before .before .before .before .before .before .action-at .result) (c .before .before .before .before .before .before .first-is-empty .result) (c .before .before .before .before .before .next-net .result) _
-    (c .before .before .before .before .before .before .before .before .held-in .ensures .0) (c .before .before .before .before .before .before .before .action-at .ensures) (c .before .before .before .before .before .before .first-is-empty .ensures) (c .before .before .before .before .before .next-net .ensures .0) (c .before .before .put-level .ensures)
+    let a = c .before .before .before .before .before .before .before .before .before .before .before .before .args in
+    moved-is _ _ _ (a .first) (a .end) _ _ _ _ (c .before .before .before .before .before .before .level-at .result) (c .before .before .before .before .before .first-is-empty .result) (c .before .before .before .before .next-net .result) _
+    (c .before .before .before .before .before .before .level-at .ensures .0) (c .before .before .before .before .before .first-is-empty .ensures) (c .before .before .before .before .next-net .ensures .0) (c .before .before .add-action .ensures)
 
 pub move-level-spec : {M : Type 1} → statement M
 move-level-spec =
@@ -17,10 +16,8 @@ move-level-spec =
     (tie.spec
     (λ c κs. search needs)
     (λ c κs. search needs)
-    (λ c κs. search needs)
     (λ c. search needs)
     (λ c κs. search needs)
-    (λ c. search needs)
     (λ c κs. search needs)
     (λ c. search needs)
     returns)

@@ -1,7 +1,7 @@
 -- `writing::write_tables` meets its contract. Assumes nothing.
 use borrow.Author.Needs.{needs}
-use mathlib.Core.Path.{refl, sym, ap, _∙_}
-use Prim.Native.Nat.{ℕ, _-_}
+use mathlib.Core.Path.{refl, ap, _∙_}
+use Prim.Native.Nat.{_-_}
 use native.Mathlib.Omega.{arith}
 use lib.ListN.{length, length-set}
 use Rattle.writing.specs.Writing.{steps, written}
@@ -41,7 +41,7 @@ returns c =
       at = _;
       all =
           ended _ _ _ _ _ _ _ _ _ _ _ _ (c .before .loop .inv) (c .loop-test .left)
-          ∙ ap (λ l. steps (a .text .now) (a .s .now) (a .log .now) (written (a .actions .now) (a .operands .now) l (record { level = 0; action = 0; actions = 0; operands = 0; levels = 1 }))) (c .before .before .before .before .put-level .ensures);
+          ∙ ap (λ l. steps (a .text .now) (a .s .now) (a .log .now) (written (a .actions .now) (a .operands .now) l (record { level = 0; action = 0; actions = 0; operands = 0; levels = 1 }))) (c .before .before .before .before .open-top .ensures);
     }
 
 pub write-tables-spec : {M : Type 1} → statement M
@@ -58,5 +58,5 @@ write-tables-spec =
     loop-again
     (λ c. c .before .loop .inv .actions-long)
     (λ c. c .before .loop .inv .operands-long)
-    (λ c. c .before .loop .inv .levels-long ∙ ap length (c .before .before .before .before .put-level .ensures) ∙ length-set {A = ℕ} (c .before .before .before .before .before .before .before .before .before .before .before .before .args .levels .now) 0 196608)
+    (λ c. c .before .loop .inv .levels-long ∙ ap length (c .before .before .before .before .open-top .ensures) ∙ simp length-set)
     returns)
