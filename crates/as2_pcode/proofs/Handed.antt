@@ -16,26 +16,29 @@ use Rattle.tokens.specs.Tokens.{tokenOf, wordOf}
 use Rattle.lexer.specs.Lexing.{fitting, lexFrom, lexText}
 use Rattle.lexer.proofs.Sound.{AllWhole, all-whole}
 use Rattle.lexer.proofs.Theorems.{few}
-use Rattle.grammar.specs.Operands.{Lexeme, numbered}
+use Rattle.lexemes.specs.Lexemes.{Lexeme, numbered}
 use Rattle.grammar.specs.Grammar.{Items}
 use Rattle.grammar.specs.Reading as G
 use Rattle.grammar.specs.Reading.{Opened, Acted, ownActions, allActions, opened, actedOf, readingOf}
 use Rattle.grammar.specs.Nets.{Net, nets, netFrom}
 use Rattle.grammar.specs.Refusals.{Outcome, reads, Answers, fits}
+use Rattle.grammar.specs.Trees.{size}
 use Rattle.grammar.proofs.Unique.{one-tree}
-use Rattle.grammar.proofs.Sizes.{size, fits-size}
+use Rattle.grammar.proofs.Sizes.{fits-size}
+use Rattle.grammar.proofs.Texts.{unlike, same-accepted}
 use Rattle.grammar.proofs.Theorems.{counts, nets-bounded}
 use Rattle.entries.specs.Entries.{actionWord, actionOf, operandOf, levelWord, levelOf, labelOf}
 use Rattle.entries.specs.declared.Action as EA
 use Rattle.entries.specs.declared.Operand as EO
 use Rattle.entries.specs.declared.Level as EL
 use Rattle.entries.specs.declared.Label as EB
-use Rattle.entries.proofs.Words.{action-back, operand-back, level-back, label-back}
+use Rattle.entries.specs.Levels.{Small, Small17}
+use Rattle.entries.proofs.Words.{action-back, operand-back, in-range, level-back, label-back}
 use Rattle.reading.specs.Trees.{AllOf, IsLow}
 use Rattle.reading.specs.Tables.{actionEntries, operandEntry, operandEntryWord, levelEntries, labelEntry, labelEntryWord}
 use Rattle.reading.proofs.Runs.{Every}
 use Rattle.reading.proofs.Groups.{NamedLow, own-few, acted-all, opened-low}
-use Rattle.reading.proofs.Ranges.{levels-below}
+use Rattle.reading.proofs.Ranges.{LevelBelow, levels-below}
 use Rattle.reading.proofs.Front.{few-of}
 use Rattle.reading.proofs.Places.{text-all}
 use Rattle.reading.proofs.Tokens.{tokens-back}
@@ -46,33 +49,31 @@ use Rattle.as2_pcode.proofs.Kept.{mapped-handed, handed, every-map, eve
 
 -- ---- the tokens of a text that is lexed
 
-same-accepted : {A : Type 0} {q : Answer A} {a b : A} → q ≡ accepted a → q ≡ accepted b → a ≡ b
-same-accepted h g = cc
-
-unlike : {A B : Type 0} {a : A} {n p : ℕ} → (_≡_ {A = Answer A} (refused n p) (accepted a)) → B
-unlike h = absurd (let z : _≡_ {A = ℕ} 0 1 = cc in omega arith)
-
-pub record Lexed (text : List ℕ) (ts : List Token) : Type 0 where
+pub record Lexed (room : ℕ) (text : List ℕ) (ts : List Token) : Type 0 where
   pub small : length text ≤ 65536
   pub made : lexFrom text 0 0 ≡ accepted ts
+  pub fit : length ts ≤ room
 
 module _ (room : ℕ) (ts : List Token) where
-  in-room : (b : Bool) (n : ℕ) (l : List Token) → cond b (refused 5 n) (accepted l) ≡ accepted ts → accepted l ≡ accepted ts
-  in-room true n l e = unlike e
-  in-room false n l e = e
+  in-room : (b : Bool) (l : List Token) → ltb room (length l) ≡ b → cond b (refused 5 (length l)) (accepted l) ≡ accepted ts
+      → (accepted l ≡ accepted ts) × (length ts ≤ room)
+  in-room true l h e = unlike e refl
+  in-room false l h e = (e, omega (arith, ltb-false room (length l) h, ap length (same-accepted {q = accepted l} refl e)))
 
-  unfitted : (q : Answer (List Token)) → fitting room q ≡ accepted ts → q ≡ accepted ts
-  unfitted (accepted l) e = in-room (ltb room (length l)) (length l) l e
-  unfitted (refused n p) e = unlike e
+  unfitted : (q : Answer (List Token)) → fitting room q ≡ accepted ts → (q ≡ accepted ts) × (length ts ≤ room)
+  unfitted (accepted l) e = in-room (ltb room (length l)) l refl e
+  unfitted (refused n p) e = unlike e refl
 
   module _ (text : List ℕ) where
     by-rows : (b c : Bool) (n : ℕ) → ltb 65536 (length text) ≡ b
-        → cond b (refused 1 0) (cond c (refused 2 n) (fitting room (lexFrom text 0 0))) ≡ accepted ts → Lexed text ts
-    by-rows true c n h e = unlike e
-    by-rows false true n h e = unlike e
-    by-rows false false n h e = record { small = ltb-false 65536 (length text) h; made = unfitted (lexFrom text 0 0) e }
+        → cond b (refused 1 0) (cond c (refused 2 n) (fitting room (lexFrom text 0 0))) ≡ accepted ts → Lexed room text ts
+    by-rows true c n h e = unlike e refl
+    by-rows false true n h e = unlike e refl
+    by-rows false false n h e =
+        let z = unfitted (lexFrom text 0 0) e in
+        record { small = ltb-false 65536 (length text) h; made = z .0; fit = z .1 }
 
-    pub lexed : lexText text room ≡ accepted ts → Lexed text ts
+    pub lexed : lexText text room ≡ accepted ts → Lexed room text ts
     unfolding lexText
     lexed e = by-rows (ltb 65536 (length text)) (ltb (validUpTo text) (length text)) (validUpTo text) refl e
 
@@ -89,15 +90,15 @@ tokens-kept n small (t ∷ ts) h =
 
 -- ---- what an accepted reading hands out
 
-module _ {text : List ℕ} {x y : Tables} {c : Counts} (a : Accepts text x y c) where
+module _ {L : Type 0} {entry : G.Label → L} {room : ℕ} {places text : List ℕ} {x y : Tables L} {c : Counts} (a : Accepts entry room places text x y c) where
   abbrev ts : List Lexeme
   ts = numbered 0 text (a .tokens)
 
   abbrev R : G.Reading
   R = a .reading
 
-  from-text : Lexed text (a .tokens)
-  from-text = lexed (length (x .tokens)) (a .tokens) text (a .lexed)
+  pub from-text : Lexed room text (a .tokens)
+  from-text = lexed room (a .tokens) text (a .lexed)
 
   whole : AllWhole (length text) (a .tokens)
   whole = all-whole text (a .tokens) (from-text .made)
@@ -108,8 +109,8 @@ module _ {text : List ℕ} {x y : Tables} {c : Counts} (a : Accepts text x y c) 
   few-lexemes : length ts ≤ 65536
   few-lexemes = omega (arith, few-tokens, numbered-length text (a .tokens) 0)
 
-  read : G.Reads ts R
-  read = reads-of (length (x .tokens)) (a .tokens) text (a .lexed) (a .answer)
+  pub read : G.Reads ts R
+  read = reads-of room (a .tokens) text (a .lexed) (a .answer)
 
   abbrev tree : Items
   tree = read .tree
@@ -131,7 +132,7 @@ module _ {text : List ℕ} {x y : Tables} {c : Counts} (a : Accepts text x y c) 
 
   pub tokens-handed : (i : ℕ) → i < length (a .tokens) → (d : Token) → tokenOf (getD (y .tokens) i 0) ≡ getD (a .tokens) i d
   tokens-handed i h d =
-      ap (λ (t : Tables). tokenOf (getD (t .tokens) i 0)) (a .tables)
+      ap (λ (t : Tables L). tokenOf (getD (t .tokens) i 0)) (a .tables)
       ∙ handed tokenOf wordOf (a .tokens) _ i d (tokens-kept (length text) (from-text .small) (a .tokens) whole) h
 
   -- ---- labels
@@ -139,14 +140,6 @@ module _ {text : List ℕ} {x y : Tables} {c : Counts} (a : Accepts text x y c) 
   labels-kept : Every LowLabel (R .labels)
   unfolding readingOf
   labels-kept = subst (λ (r : G.Reading). Every LowLabel (r .labels)) (read .told) (labels-low (opened tree) 0 levels-named)
-
-  pub labels-handed : (i : ℕ) → i < c .labels → (d : EB.Label) → labelOf (getD (y .labels) i 0) ≡ getD (map labelEntry (a .reading .labels)) i d
-  labels-handed i h d =
-      ap (λ (t : Tables). labelOf (getD (t .labels) i 0)) (a .tables)
-      ∙ mapped-handed labelOf labelEntryWord labelEntry (R .labels) _ i d
-      (every-weaker LowLabel (λ (l : G.Label). labelOf (labelEntryWord l) ≡ labelEntry l)
-      (λ l k. label-back (labelEntry l) (k .0) (k .1)) (R .labels) labels-kept)
-      (omega (arith, h, ap (λ (k : Counts). k .labels) (a .counts)))
 
   -- ---- operands
 
@@ -156,7 +149,7 @@ module _ {text : List ℕ} {x y : Tables} {c : Counts} (a : Accepts text x y c) 
 
   pub operands-handed : (i : ℕ) → i < c .operands → (d : EO.Operand) → operandOf (getD (y .operands) i 0) ≡ getD (map operandEntry (a .reading .operands)) i d
   operands-handed i h d =
-      ap (λ (t : Tables). operandOf (getD (t .operands) i 0)) (a .tables)
+      ap (λ (t : Tables L). operandOf (getD (t .operands) i 0)) (a .tables)
       ∙ mapped-handed operandOf operandEntryWord operandEntry (R .operands) _ i d
       (every-weaker LowOperand (λ (o : G.Operand). operandOf (operandEntryWord o) ≡ operandEntry o)
       (λ o k. operand-back (operandEntry o) (omega (arith, k))) (R .operands) operands-kept)
@@ -169,7 +162,8 @@ module _ {text : List ℕ} {x y : Tables} {c : Counts} (a : Accepts text x y c) 
   acted-kept =
       subst (λ (r : G.Reading). Every LevelLow (r .actions)) (read .told)
       (every-map LevelLow (λ (l : Acted). record { name = l .name; level = l .level }) (actedOf 0 1 tree)
-      (levels-below 131072 tree 0 1 (omega arith) (omega (arith, few-of tree 0 1 0, small))))
+      (every-weaker (LevelBelow 65537) (λ (l : Acted). Small17 (l .level)) (λ l k. omega (arith, k)) (actedOf 0 1 tree)
+      (levels-below 65537 tree 0 1 (omega arith) (omega (arith, few-of tree 0 1 0, small)))))
 
   actions-kept : Every LowAction (actionEntries 0 0 (R .actions) (R .operands))
   actions-kept = actions-low (R .operands) (R .actions) acted-kept (omega (arith, counts read .1, few-lexemes))
@@ -178,7 +172,7 @@ module _ {text : List ℕ} {x y : Tables} {c : Counts} (a : Accepts text x y c) 
       → actionOf (getD (y .actions) i 0) ≡ getD (actionEntries 0 0 (a .reading .actions) (a .reading .operands)) i d
   actions-handed i h d =
       let es = actionEntries 0 0 (R .actions) (R .operands) in
-      ap (λ (t : Tables). actionOf (getD (t .actions) i 0)) (a .tables)
+      ap (λ (t : Tables L). actionOf (getD (t .actions) i 0)) (a .tables)
       ∙ handed actionOf actionWord es _ i d
       (every-weaker LowAction (λ (e : EA.Action). actionOf (actionWord e) ≡ e)
       (λ e k. action-back e (k .0) (k .1 .0) (k .1 .1)) es actions-kept)
@@ -201,9 +195,9 @@ module _ {text : List ℕ} {x y : Tables} {c : Counts} (a : Accepts text x y c) 
   counts-kept =
       subst (λ (r : G.Reading). Every CountLow (r .levels)) (read .told)
       (every-map CountLow (λ (l : Opened). record { owner = l .owner; actions = ownActions (l .items) }) (opened tree)
-      (every-weaker NamedLow (λ (l : Opened). ownActions (l .items) < 1048576) (λ l k. k .1) (opened tree) levels-named))
+      (every-weaker NamedLow (λ (l : Opened). Small (ownActions (l .items))) (λ l k. k .1) (opened tree) levels-named))
 
-  nets-long : length (a .nets) ≡ length (R .levels)
+  pub nets-long : length (a .nets) ≡ length (R .levels)
   unfolding nets readingOf
   nets-long =
       sym (ap length net-told)
@@ -215,8 +209,19 @@ module _ {text : List ℕ} {x y : Tables} {c : Counts} (a : Accepts text x y c) 
       → levelOf (getD (y .levels) i 0) ≡ getD (levelEntries (a .reading .levels) (a .nets)) i d
   levels-handed i h d =
       let es = levelEntries (R .levels) (a .nets) in
-      ap (λ (t : Tables). levelOf (getD (t .levels) i 0)) (a .tables)
+      ap (λ (t : Tables L). levelOf (getD (t .levels) i 0)) (a .tables)
       ∙ handed levelOf levelWord es _ i d
       (every-weaker LowLevel (λ (e : EL.Level). levelOf (levelWord e) ≡ e)
-      (λ e k. level-back e (k .0) (k .1)) es (levels-low (R .levels) (a .nets) counts-kept nets-kept))
+      (λ e k. level-back e (k .0) (in-range (e .net) (k .1))) es (levels-low (R .levels) (a .nets) counts-kept nets-kept))
       (omega (arith, h, ap (λ (k : Counts). k .levels) (a .counts), level-count (R .levels) (a .nets) nets-long))
+
+-- ---- labels whose entries are words
+
+module _ {room : ℕ} {places text : List ℕ} {x y : Tables ℕ} {c : Counts} (a : Accepts labelEntryWord room places text x y c) where
+  pub labels-handed : (i : ℕ) → i < c .labels → (d : EB.Label) → labelOf (getD (y .labels) i 0) ≡ getD (map labelEntry (a .reading .labels)) i d
+  labels-handed i h d =
+      ap (λ (t : Tables ℕ). labelOf (getD (t .labels) i 0)) (a .tables)
+      ∙ mapped-handed labelOf labelEntryWord labelEntry (a .reading .labels) _ i d
+      (every-weaker LowLabel (λ (l : G.Label). labelOf (labelEntryWord l) ≡ labelEntry l)
+      (λ l k. label-back (labelEntry l) (k .0) (k .1)) (a .reading .labels) (labels-kept a))
+      (omega (arith, h, ap (λ (k : Counts). k .labels) (a .counts)))

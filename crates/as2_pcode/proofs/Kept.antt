@@ -12,16 +12,17 @@ use lib.ListN.{length, getD}
 use lib.Signed.{_≤ℤ_}
 use borrow.Author.Tests.{leb-true, leb-false, eqb-true, eqb-false}
 use Rattle.tokens.specs.declared.Token.{Token}
-use Rattle.grammar.specs.Operands.{Lexeme, raw, numbered}
+use Rattle.lexemes.specs.Lexemes.{Lexeme, raw, numbered}
+use Rattle.lexemes.proofs.Tests.{either}
 use Rattle.grammar.specs.Grammar.{Items, done, label, action, Blocks, no-blocks, block}
 use Rattle.grammar.specs.Reading as R
 use Rattle.grammar.specs.Reading.{Opened, Acted, ownActions, allActions, actionsInside, openedOf, openedIn, operandsFrom, sameName, place, ownLabels, labelsFrom}
 use Rattle.grammar.specs.Nets.{Net, height, undetermined, moved, netFrom, nameIsEmpty}
-use Rattle.grammar.proofs.Tests.{either}
 use Rattle.pcode.specs.Deltas.{deltaOf}
 use Rattle.entries.specs.declared.Action as E
 use Rattle.entries.specs.declared.Level as L
 use Rattle.entries.specs.declared.Net.the-variants as N
+use Rattle.entries.specs.Levels.{Small, Small17}
 use Rattle.entries.proofs.Words.{InRange}
 use Rattle.reading.specs.Trees.{All, AllOf, IsLow}
 use Rattle.reading.specs.Tables.{under, actionEntries, netEntry, levelEntries}
@@ -60,7 +61,7 @@ pub numbered-length : (text : List ℕ) (ts : List Token) (i : ℕ) → length (
 numbered-length text [] i = refl
 numbered-length text (t ∷ ts) i = ap suc (numbered-length text ts (suc i))
 
-pub numbered-low : (text : List ℕ) (ts : List Token) (i : ℕ) → i + length ts ≤ 1048576 → All IsLow (numbered i text ts)
+pub numbered-low : (text : List ℕ) (ts : List Token) (i : ℕ) → i + length ts ≤ 65536 → All IsLow (numbered i text ts)
 numbered-low text [] i h = tt
 numbered-low text (t ∷ ts) i h = (omega (arith, h), numbered-low text ts (suc i) (omega (arith, h)))
 
@@ -82,14 +83,14 @@ operands-low (l ∷ ls) a h =
 -- ---- labels
 
 abbrev pub LowLabel : R.Label → Type 0
-LowLabel l = IsLow (l .name) × (l .position < 1048576)
+LowLabel l = IsLow (l .name) × Small (l .position)
 
 place-low : (l : R.Label) (ks : List R.Label) → LowLabel l → Every LowLabel ks → Every LowLabel (place l ks)
 place-low l [] h g = (h, tt)
 place-low l (k ∷ ks) h g =
     either (Every LowLabel) (sameName (raw (l .name)) (raw (k .name))) _ _ ((g .0 .0, h .1), g .1) (g .0, place-low l ks h (g .1))
 
-own-low : (x : Items) (ℓ p : ℕ) (ks : List R.Label) → AllOf IsLow x → p + ownActions x < 1048576 → Every LowLabel ks → Every LowLabel (ownLabels ℓ p ks x)
+own-low : (x : Items) (ℓ p : ℕ) (ks : List R.Label) → AllOf IsLow x → Small (p + ownActions x) → Every LowLabel ks → Every LowLabel (ownLabels ℓ p ks x)
 own-low done ℓ p ks h g k = k
 own-low (label t x) ℓ p ks h g k =
     let l : R.Label = record { level = ℓ; name = t; position = p } in
@@ -133,13 +134,13 @@ from-suc a (o ∷ os) =
     one-more a b (from a os) (under a os) (from (suc a) os) (from-suc a os) (leb a b) (eqb b a) (leb (suc a) b) refl refl refl
 
 abbrev pub LowAction : E.Action → Type 0
-LowAction e = (e .level < 131072) × ((e .first < 131072) × (e .count < 131072))
+LowAction e = Small17 (e .level) × (Small17 (e .first) × Small17 (e .count))
 
 abbrev pub LevelLow : R.Action → Type 0
-LevelLow v = v .level < 131072
+LevelLow v = Small17 (v .level)
 
 module _ (os : List R.Operand) where
-  entries-low : (xs : List R.Action) (a first : ℕ) → Every LevelLow xs → first + from a os < 131072 → Every LowAction (actionEntries a first xs os)
+  entries-low : (xs : List R.Action) (a first : ℕ) → Every LevelLow xs → Small17 (first + from a os) → Every LowAction (actionEntries a first xs os)
   entries-low [] a first h g = tt
   entries-low (v ∷ xs) a first h g =
       let e = from-suc a os in (
@@ -147,7 +148,7 @@ module _ (os : List R.Operand) where
         entries-low xs (suc a) (first + under a os) (h .1) (omega (arith, g, e)),
       )
 
-  pub actions-low : (xs : List R.Action) → Every LevelLow xs → length os < 131072 → Every LowAction (actionEntries 0 0 xs os)
+  pub actions-low : (xs : List R.Action) → Every LevelLow xs → Small17 (length os) → Every LowAction (actionEntries 0 0 xs os)
   actions-low xs h g = entries-low xs 0 0 h (omega (arith, g, from-few 0 os))
 
 -- ---- levels
@@ -203,10 +204,10 @@ nets-low (height z ∷ l) f u = (height-low z (f z (List·Memᴰ·head refl)), n
 nets-low (undetermined b ∷ l) f u = (u .0, nets-low l (λ q m. f q (List·Memᴰ·tail m)) (u .1))
 
 abbrev pub LowLevel : L.Level → Type 0
-LowLevel v = (v .actions < 1048576) × InRange (v .net)
+LowLevel v = Small (v .actions) × InRange (v .net)
 
 abbrev pub CountLow : R.Level → Type 0
-CountLow l = l .actions < 1048576
+CountLow l = Small (l .actions)
 
 pub levels-low : (ls : List R.Level) (ns : List Net) → Every CountLow ls → Every NetLow ns → Every LowLevel (levelEntries ls ns)
 levels-low [] ns h g = tt

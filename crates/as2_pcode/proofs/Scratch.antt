@@ -1,8 +1,7 @@
 -- What parsing left in scratch. Assumes nothing.
 use mathlib.Core.Path.{_≡_, sym, subst}
 use mathlib.Core.List.{List}
-use Prim.Native.Nat.{ℕ, _≤_, _<_}
-use native.Mathlib.Omega.{arith}
+use Prim.Native.Nat.{ℕ, _≤_}
 use lib.ListN.{length, take}
 use lib.Seq.{length-take-le}
 use Rattle.answers.specs.Answers.{refusal}
@@ -27,7 +26,3 @@ module _ (text z l : List ℕ) (room : ℕ) (q : Parsing) (h : Parses text room 
 
   pub events-long : (n e : ℕ) → q ≡ P.Events n e → e ≡ length (take e l)
   events-long n e p = sym (length-take-le e l (parsed n e p .1 .1))
-
-  -- a text has no more tokens than bytes
-  pub no-more : (n e : ℕ) → q ≡ P.Events n e → length text < n → ⊥
-  no-more n e p h = omega (arith, words-long n e p, parsed n e p .0 .in-text)

@@ -1,4 +1,4 @@
-pub mod Rows
+pub mod Labels
 pub mod Array
 pub mod Answer
 pub mod Scratch

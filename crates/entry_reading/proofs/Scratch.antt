@@ -48,13 +48,14 @@ use denote.Signature.{plain}
 use Rattle.entries.specs.declared.Label.{Label}
 use Rattle.entries.specs.Entries.{labelOf}
 use Rattle.handover.specs.declared.Reading.{Reading}
-use Rattle.handover.specs.Reading.{lent as numbers}
+use Rattle.reading.specs.Tables.{labelEntry}
+use Rattle.handover.specs.Reading.{Reads, lent}
+use Rattle.held.specs.Held.{AmpleEntries}
 use Rattle.label_entries.proofs.Entry.{Entry, entryTy}
 use Rattle.label_entries.proofs.put_labels as put-labels
 use Rattle.label_entries.proofs.put_labels.Symbol.{name as #label-entries·put-labels}
-use Rattle.entry_reading.specs.Reading.{Reads, lent}
-use Rattle.entry_reading.specs.Words.{Ample, ReadsWords, labelCount}
-use Rattle.entry_reading.proofs.Rows.{enough, handed}
+use Rattle.entry_reading.specs.Words.{ReadsScratch, labelCount}
+use Rattle.entry_reading.proofs.Labels.{enough, handed}
 use Rattle.entry_reading.proofs.Array.{repeat-typed, in-cells, to-room, big}
 use Rattle.entry_reading.proofs.Answer.{Answer, answerTy, answer-typed, answer-makes}
 use Rattle.entry_reading.proofs.read_words as read-words
@@ -169,7 +170,7 @@ module _ {M : Type 1} (𝓤 : URA M) (H : Heap 𝓤) (A : Atoms 𝓤) (W : Given
   X = ShrSlice (named 0) κ₀ u8 .own x (sv x ∷ [])
 
   module _ (c : Clauses 𝓤 read-small.ended) (g₀ : c κs a .ghost)
-      (ends : (r : Reading) (t₁ t₂ t₃ t₄ : List ℕ) (ls : List Label) → Reads (x .now) (lent (y₁ .now) (y₂ .now) (y₃ .now) (y₄ .now) (z .now)) (lent t₁ t₂ t₃ t₄ ls) r
+      (ends : (r : Reading) (t₁ t₂ t₃ t₄ : List ℕ) (ls : List Label) → Reads labelEntry (x .now) (lent (y₁ .now) (y₂ .now) (y₃ .now) (y₄ .now) (z .now)) (lent t₁ t₂ t₃ t₄ ls) r
       → ent 𝓤 (emp 𝓤) (c κs a .ensures g₀ r (atExit read-small.ended κs a (tt, (t₁, (t₂, (t₃, (t₄, (ls, tt))))))))) where
     abbrev Post : Val → SProp 𝓤
     Post = walkOf 𝓤 H A read-small.ended stayed c .post ((κs, qs, tt, a, passed), g₀)
@@ -180,7 +181,7 @@ module _ {M : Type 1} (𝓤 : URA M) (H : Heap 𝓤) (A : Atoms 𝓤) (W : Given
 
     pub exits : (r : Reading) (v : Val) → Is Answer r (v ∷ []) → (t₁ t₂ t₃ t₄ : List ℕ) (ls : List Label)
         → length t₁ ≡ length (y₁ .now) → length t₂ ≡ length (y₂ .now) → length t₃ ≡ length (y₃ .now) → length t₄ ≡ length (y₄ .now) → length ls ≡ length (z .now)
-        → Reads (x .now) (lent (y₁ .now) (y₂ .now) (y₃ .now) (y₄ .now) (z .now)) (lent t₁ t₂ t₃ t₄ ls) r → ent 𝓤 (⋆ 𝓤 H A (Had t₁ t₂ t₃ t₄ ls)) (Post v)
+        → Reads labelEntry (x .now) (lent (y₁ .now) (y₂ .now) (y₃ .now) (y₄ .now) (z .now)) (lent t₁ t₂ t₃ t₄ ls) r → ent 𝓤 (⋆ 𝓤 H A (Had t₁ t₂ t₃ t₄ ls)) (Post v)
     exits r v is t₁ t₂ t₃ t₄ ls e₁ e₂ e₃ e₄ e₅ told =
         qed W (Had t₁ t₂ t₃ t₄ ls) ∵
         suffices ! _ (ends-at 𝓤 H A read-small.ended stayed c W ((κs, qs, tt, a, passed), g₀) v r (tt, (t₁, (t₂, (t₃, (t₄, (ls, tt)))))) (tt, (e₁, (e₂, (e₃, (e₄, (e₅, tt))))))) $ states ! (ends r t₁ t₂ t₃ t₄ ls told) $
@@ -189,7 +190,7 @@ module _ {M : Type 1} (𝓤 : URA M) (H : Heap 𝓤) (A : Atoms 𝓤) (W : Given
         nothing ! $ move ! (5 ∷ 0 ∷ []) $ fjoin ! $ move ! (4 ∷ 0 ∷ []) $ fjoin ! $ move ! (3 ∷ 0 ∷ []) $ fjoin ! $ move ! (2 ∷ 0 ∷ []) $ fjoin ! $ move ! (1 ∷ 0 ∷ []) $ fjoin ! $ move ! (1 ∷ 0 ∷ []) $ fjoin ! $ frame ! $
         owned ! Answer (Is Answer) (answer-makes 𝓤 H A W) r _ is $ done !
 
-    module _ (N : ℕ) (N-small : N ≤ 65536) (ample : Ample (length (x .now)) N) (C : Calls 𝓤 H) (Λ : Loops 𝓤 H) (fm : FmC 𝓤 H (W .laws) C)
+    module _ (N : ℕ) (N-small : N ≤ 65536) (ample : AmpleEntries (length (x .now)) N) (C : Calls 𝓤 H) (Λ : Loops 𝓤 H) (fm : FmC 𝓤 H (W .laws) C)
         (known-words : Triple 𝓤 (C #entry-reading·read-words) (ReadWords 𝓤 H A mem run)) (known-count : Triple 𝓤 (C #entry-reading·label-count) (LabelCount 𝓤 H A mem run)) (known-put : Triple 𝓤 (C #label-entries·put-labels) (PutLabels 𝓤 H A mem run)) where
       abbrev blank : List ℕ
       blank = replicate N 0
@@ -237,7 +238,7 @@ module _ {M : Type 1} (𝓤 : URA M) (H : Heap 𝓤) (A : Atoms 𝓤) (W : Given
       given-words α γ l = owns (ShrSlice (named 0) κ₀ u8 ∷ MutSlice (named 1) κ₁ u64 ∷ MutSlice (named 2) κ₂ u64 ∷ MutSlice (named 3) κ₃ u64 ∷ MutSlice (named 4) κ₄ u64 ∷ MutSlice (named 5) (α ∷ []) u64 ∷ usize ∷ []) (a-words γ l) (v-words l)
 
       asks-words : (α : ℕ) (γ : GName) (l : ℕ) → ent 𝓤 (sep 𝓤 (mean 𝓤 H A (Tokens α)) (sem 𝓤 H A (given-words α γ l))) (ReadWords 𝓤 H A mem run .pre (to-words α γ l))
-      asks-words α γ l = qed W (Tokens α ∷ ‵ (given-words α γ l) ∷ []) ∵ says ! (subst (Ample (length (x .now))) (sym blank-count) ample) $ frame ! $ done !
+      asks-words α γ l = qed W (Tokens α ∷ ‵ (given-words α γ l) ∷ []) ∵ says ! (subst (AmpleEntries (length (x .now))) (sym blank-count) ample) $ frame ! $ done !
 
       abbrev LastWords : Type 0
       LastWords = Unit {0} × (List ℕ × (List ℕ × (List ℕ × (List ℕ × (List ℕ × (Unit {0} × Unit {0}))))))
@@ -246,7 +247,7 @@ module _ {M : Type 1} (𝓤 : URA M) (H : Heap 𝓤) (A : Atoms 𝓤) (W : Given
       words-of ws = ws .1 .1 .1 .1 .1 .0
 
       abbrev Told : LastWords → Reading → Type 0
-      Told ws r = ReadsWords (x .now) (length (z .now)) (numbers (y₁ .now) (y₂ .now) (y₃ .now) (y₄ .now) blank) (numbers (ws .1 .0) (ws .1 .1 .0) (ws .1 .1 .1 .0) (ws .1 .1 .1 .1 .0) (words-of ws)) r
+      Told ws r = ReadsScratch (length (z .now)) (x .now) (lent (y₁ .now) (y₂ .now) (y₃ .now) (y₄ .now) blank) (lent (ws .1 .0) (ws .1 .1 .0) (ws .1 .1 .1 .0) (ws .1 .1 .1 .1 .0) (words-of ws)) r
 
       same-count : (ws : LastWords) → length (words-of ws) ≡ length blank → length (words-of ws) ≡ N
       same-count ws e = e ∙ blank-count

@@ -1,13 +1,15 @@
 // Reading where the label table is a lent slice of label entries: thin functions over `as2_pcode::read`.
 use as2_pcode::Reading;
 use entries::Label;
+use held::least;
 use label_entries::put_labels;
 ghost use mathlib.Core.Path.{_≡_};
 ghost use Prim.Native.Nat.{_≤_};
 ghost use lib.ListN.{length};
-ghost use Rattle.handover.specs.Reading.{lent as numbers};
-ghost use Rattle.entry_reading.specs.Reading.{Reads, lent};
-ghost use Rattle.entry_reading.specs.Words.{Ample, ReadsWords, labelCount};
+ghost use Rattle.reading.specs.Tables.{labelEntry};
+ghost use Rattle.handover.specs.Reading.{Reads, lent};
+ghost use Rattle.held.specs.Held.{AmpleEntries};
+ghost use Rattle.entry_reading.specs.Words.{ReadsScratch, labelCount};
 
 // How many labels a reading has handed out.
 fn label_count(reading: Reading) -> usize
@@ -19,8 +21,7 @@ fn label_count(reading: Reading) -> usize
     }
 }
 
-// Reads for a label table of `room` places, whose words go to scratch, which has a place for each byte of a text that is
-// not refused by row 1.
+// Reads for a label table of `room` places: the words of its labels go to scratch, which is cut to as many.
 fn read_words(
     text: &[u8],
     tokens: &mut [u64],
@@ -30,13 +31,11 @@ fn read_words(
     words: &mut [u64],
     room: usize,
 ) -> Reading
-    requires { ⌜ Ample (length (now text)) (length (now words)) ⌝ }
-    ensures { λ r. ⌜ ReadsWords (now (text .entry)) room (numbers (now (tokens .entry)) (now (actions .entry)) (now (operands .entry)) (now (levels .entry)) (now (words .entry))) (numbers (now (tokens .exit)) (now (actions .exit)) (now (operands .exit)) (now (levels .exit)) (now (words .exit))) r ⌝ }
+    requires { ⌜ AmpleEntries (length (now text)) (length (now words)) ⌝ }
+    ensures { λ r. ⌜ ReadsScratch room (now (text .entry)) (lent (now (tokens .entry)) (now (actions .entry)) (now (operands .entry)) (now (levels .entry)) (now (words .entry))) (lent (now (tokens .exit)) (now (actions .exit)) (now (operands .exit)) (now (levels .exit)) (now (words .exit))) r ⌝ }
 {
-    if room < words.len() {
-        return as2_pcode::read(text, tokens, actions, operands, levels, &mut words[..room]);
-    }
-    as2_pcode::read(text, tokens, actions, operands, levels, words)
+    let n = least(room, words.len());
+    as2_pcode::read(text, tokens, actions, operands, levels, &mut words[..n])
 }
 
 // A small text does not pay for the scratch of a large one.
@@ -49,9 +48,9 @@ fn read_small(
     labels: &mut [Label],
 ) -> Reading
     requires { ⌜ length (now text) ≤ 4096 ⌝ }
-    ensures { λ r. ⌜ Reads (now (text .entry)) (lent (now (tokens .entry)) (now (actions .entry)) (now (operands .entry)) (now (levels .entry)) (now (labels .entry))) (lent (now (tokens .exit)) (now (actions .exit)) (now (operands .exit)) (now (levels .exit)) (now (labels .exit))) r ⌝ }
+    ensures { λ r. ⌜ Reads labelEntry (now (text .entry)) (lent (now (tokens .entry)) (now (actions .entry)) (now (operands .entry)) (now (levels .entry)) (now (labels .entry))) (lent (now (tokens .exit)) (now (actions .exit)) (now (operands .exit)) (now (levels .exit)) (now (labels .exit))) r ⌝ }
 {
-    let mut words = [0u64; 4096];
+    let mut words = [0u64; 2049];
     let room = labels.len();
     let reading = read_words(text, tokens, actions, operands, levels, &mut words, room);
     let n = label_count(reading);
@@ -67,9 +66,9 @@ fn read_large(
     levels: &mut [u64],
     labels: &mut [Label],
 ) -> Reading
-    ensures { λ r. ⌜ Reads (now (text .entry)) (lent (now (tokens .entry)) (now (actions .entry)) (now (operands .entry)) (now (levels .entry)) (now (labels .entry))) (lent (now (tokens .exit)) (now (actions .exit)) (now (operands .exit)) (now (levels .exit)) (now (labels .exit))) r ⌝ }
+    ensures { λ r. ⌜ Reads labelEntry (now (text .entry)) (lent (now (tokens .entry)) (now (actions .entry)) (now (operands .entry)) (now (levels .entry)) (now (labels .entry))) (lent (now (tokens .exit)) (now (actions .exit)) (now (operands .exit)) (now (levels .exit)) (now (labels .exit))) r ⌝ }
 {
-    let mut words = [0u64; 65536];
+    let mut words = [0u64; 32769];
     let room = labels.len();
     let reading = read_words(text, tokens, actions, operands, levels, &mut words, room);
     let n = label_count(reading);
@@ -87,7 +86,7 @@ pub fn read_entries(
     levels: &mut [u64],
     labels: &mut [Label],
 ) -> Reading
-    ensures { λ r. ⌜ Reads (now (text .entry)) (lent (now (tokens .entry)) (now (actions .entry)) (now (operands .entry)) (now (levels .entry)) (now (labels .entry))) (lent (now (tokens .exit)) (now (actions .exit)) (now (operands .exit)) (now (levels .exit)) (now (labels .exit))) r ⌝ }
+    ensures { λ r. ⌜ Reads labelEntry (now (text .entry)) (lent (now (tokens .entry)) (now (actions .entry)) (now (operands .entry)) (now (levels .entry)) (now (labels .entry))) (lent (now (tokens .exit)) (now (actions .exit)) (now (operands .exit)) (now (levels .exit)) (now (labels .exit))) r ⌝ }
 {
     if text.len() <= 4096 {
         return read_small(text, tokens, actions, operands, levels, labels);

@@ -24,7 +24,7 @@ use Rattle.labelling.specs.declared.Put.{Put}
 use Rattle.labelling.specs.declared.Put.the-variants as P
 use Rattle.labelling.specs.Putting.{Asked, PutOf}
 use Rattle.handover.specs.declared.Reading.the-variants as R
-use Rattle.handover.specs.Reading.{Tables, places, Reads, lent}
+use Rattle.handover.specs.Reading.{Tables, places, Reads, ReadsWords, lent}
 use Rattle.handover.specs.Scratch.{lowestShort}
 use Rattle.handover.proofs.Rows.{Lowest, found, none, wider}
 
@@ -32,7 +32,7 @@ module _ (text s log tokens actions operands levels labels : List ℕ) (r : Logg
   abbrev tree : Items
   tree = r .tree
 
-  abbrev had : Tables
+  abbrev had : Tables ℕ
   had = lent tokens actions operands levels labels
 
   low : AllOf IsLow tree
@@ -58,7 +58,7 @@ module _ (text s log tokens actions operands levels labels : List ℕ) (r : Logg
   all-needed : (n : ℕ) → n ≡ length (readingOf tree .labels) → c .actions ∷ c .operands ∷ c .levels ∷ n ∷ [] ≡ entries (readingOf tree)
   all-needed n e = λ i. counts .actions i ∷ counts .operands i ∷ counts .levels i ∷ e i ∷ []
 
-  refused-at : (k n : ℕ) → n ≡ length (readingOf tree .labels) → Lowest (places had) (c .actions ∷ c .operands ∷ c .levels ∷ n ∷ []) k → Reads text had had (R.Refused (F.TableShort k))
+  refused-at : (k n : ℕ) → n ≡ length (readingOf tree .labels) → Lowest (places had) (c .actions ∷ c .operands ∷ c .levels ∷ n ∷ []) k → ReadsWords text had had (R.Refused (F.TableShort k))
   unfolding Reads
   refused-at k n e g =
       let a = all-needed n e in (
@@ -75,7 +75,7 @@ module _ (text s log tokens actions operands levels labels : List ℕ) (r : Logg
   abbrev lowest : ℕ
   lowest = lowestShort (length actions ∷ length operands ∷ length levels ∷ []) (c .actions ∷ c .operands ∷ c .levels ∷ [])
 
-  pub row8 : (k : ℕ) → k ≡ lowest → k < 3 → Reads text had had (R.Refused (F.TableShort k))
+  pub row8 : (k : ℕ) → k ≡ lowest → k < 3 → ReadsWords text had had (R.Refused (F.TableShort k))
   row8 k e h =
       let ps = length actions ∷ length operands ∷ length levels ∷ [] in
       let es = c .actions ∷ c .operands ∷ c .levels ∷ [] in
@@ -96,10 +96,10 @@ module _ (text s log tokens actions operands levels labels : List ℕ) (r : Logg
     levels-room : c .levels ≤ length levels
     levels-room = let n = roomy 2 in omega (arith, n)
 
-    pub row8-labels : (labels′ : List ℕ) → PutOf tree labels labels′ P.Short → Reads text had (lent tokens actions operands levels labels′) (R.Refused (F.TableShort 3))
+    pub row8-labels : (labels′ : List ℕ) → PutOf tree labels labels′ P.Short → ReadsWords text had (lent tokens actions operands levels labels′) (R.Refused (F.TableShort 3))
     unfolding PutOf
     row8-labels labels′ p =
-        subst (λ l. Reads text had (lent tokens actions operands levels l) (R.Refused (F.TableShort 3))) (sym (p .1))
+        subst (λ l. ReadsWords text had (lent tokens actions operands levels l) (R.Refused (F.TableShort 3))) (sym (p .1))
         (refused-at 3 (length (readingOf tree .labels)) refl (record { short = p .0; lowest = before }))
       where
         before : (j : ℕ) → j < 3 → ¬ (getD (places had) j 0 < getD (c .actions ∷ c .operands ∷ c .levels ∷ length (readingOf tree .labels) ∷ []) j 0)
@@ -108,7 +108,7 @@ module _ (text s log tokens actions operands levels labels : List ℕ) (r : Logg
         before (suc (suc zero)) i w = omega (arith, w, levels-room)
         before (suc (suc (suc j))) i w = omega arith
 
-    pub no-room : (labels′ : List ℕ) (q : Put) → PutOf tree labels labels′ q → q ≡ P.Short → Reads text had (lent tokens actions operands levels labels′) (R.Refused (F.TableShort 3))
+    pub no-room : (labels′ : List ℕ) (q : Put) → PutOf tree labels labels′ q → q ≡ P.Short → ReadsWords text had (lent tokens actions operands levels labels′) (R.Refused (F.TableShort 3))
     no-room labels′ q p f = row8-labels labels′ (subst (PutOf tree labels labels′) f p)
 
     module _ (tokens′ actions′ operands′ levels′ labels′ : List ℕ) (m : ℕ) (p : PutOf tree labels labels′ (P.Labels m))
@@ -128,7 +128,7 @@ module _ (text s log tokens actions operands levels labels : List ℕ) (r : Logg
       none-short e₁ l (suc (suc (suc zero))) v = omega (arith, v)
       none-short e₁ l (suc (suc (suc (suc j)))) v = omega (arith, v)
 
-      pub accepted-all : Reads text had (lent tokens′ actions′ operands′ levels′ labels′)
+      pub accepted-all : ReadsWords text had (lent tokens′ actions′ operands′ levels′ labels′)
           (R.Read (record { tokens = length s; actions = c .actions; operands = c .operands; levels = c .levels; labels = m }))
       unfolding Reads PutOf
       accepted-all =
@@ -152,7 +152,7 @@ module _ (text s log tokens actions operands levels labels : List ℕ) (r : Logg
 
     pub accepted-put : (tokens′ actions′ operands′ levels′ labels′ : List ℕ) (m : ℕ) (q : Put) → PutOf tree labels labels′ q → q ≡ P.Labels m
         → Writes text s log actions operands levels actions′ operands′ levels′ → tokens′ ≡ take (length s) s ++ drop (length s) tokens
-        → Reads text had (lent tokens′ actions′ operands′ levels′ labels′)
+        → ReadsWords text had (lent tokens′ actions′ operands′ levels′ labels′)
         (R.Read (record { tokens = length s; actions = c .actions; operands = c .operands; levels = c .levels; labels = m }))
     accepted-put tokens′ actions′ operands′ levels′ labels′ m q p f w t =
         accepted-all tokens′ actions′ operands′ levels′ labels′ m (subst (PutOf tree labels labels′) f p) w t

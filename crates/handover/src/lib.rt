@@ -1,13 +1,13 @@
 // The answer of reading, and what it hands over: a reading's entries go into the lent tables if all of them have room.
 use answers::Refusal;
-use tables::copy_front;
 use counting::Count;
 use labelling::Put;
+use tables::copy_front;
 ghost use mathlib.Core.Path.{_≡_};
 ghost use mathlib.Core.List.{[], _∷_};
 ghost use lib.ListN.{length};
 ghost use Rattle.reading.specs.Told.{Logged};
-ghost use Rattle.handover.specs.Reading.{Reads, lent};
+ghost use Rattle.handover.specs.Reading.{ReadsWords, lent};
 ghost use Rattle.handover.specs.Scratch.{lowestShort};
 
 // How many entries each table got.
@@ -52,7 +52,7 @@ pub fn read_log(
     labels: &mut [u64],
 ) -> Reading
     requires { ⌜ Logged (now text) (length (now tokens)) (now s) (now log) ⌝ }
-    ensures { λ r. ⌜ Reads (now (text .entry)) (lent (now (tokens .entry)) (now (actions .entry)) (now (operands .entry)) (now (levels .entry)) (now (labels .entry))) (lent (now (tokens .exit)) (now (actions .exit)) (now (operands .exit)) (now (levels .exit)) (now (labels .exit))) r ⌝ }
+    ensures { λ r. ⌜ ReadsWords (now (text .entry)) (lent (now (tokens .entry)) (now (actions .entry)) (now (operands .entry)) (now (levels .entry)) (now (labels .entry))) (lent (now (tokens .exit)) (now (actions .exit)) (now (operands .exit)) (now (levels .exit)) (now (labels .exit))) r ⌝ }
 {
     let c = counting::count_log(log);
     let short = short_table(c, actions.len(), operands.len(), levels.len());

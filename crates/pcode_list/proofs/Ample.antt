@@ -1,5 +1,5 @@
 -- Tables with a place for each byte of a text, and one for the top level, are never too short for it. Assumes nothing.
-use mathlib.Core.Path.{_≡_, refl, sym, ap, subst}
+use mathlib.Core.Path.{_≡_, refl, sym, subst}
 use mathlib.Core.Bool.{Bool, true, false, cond}
 use mathlib.Core.List.{List, [], _∷_}
 use Prim.Native.Nat.{ℕ, zero, suc, _+_, _-_, _≤_}
@@ -15,13 +15,14 @@ use Rattle.lexer.specs.Lexing.{before, then, lexFrom, fitting, lexText}
 use Rattle.lexer.specs.declared.Found.{Found}
 use Rattle.lexer.specs.declared.Found.the-variants as F
 use Rattle.lexer.proofs.Theorems.{few}
-use Rattle.grammar.specs.Operands.{numbered}
+use Rattle.lexemes.specs.Lexemes.{numbered}
 use Rattle.grammar.specs.Reading as G
 use Rattle.grammar.specs.Refusals.{Outcome, row₆, row₇, reads, Short, Answers, rows₁₋₅, rows₆₋₇, row₈}
 use Rattle.grammar.proofs.Theorems.{ample}
 use Rattle.handover.specs.declared.Reading.{Reading}
 use Rattle.handover.specs.declared.Reading.the-variants as R
-use Rattle.handover.specs.Reading.{Tables, places, Reads}
+use Rattle.handover.specs.Reading.{Tables, places, Reads, ReadsWords}
+use Rattle.as2_pcode.proofs.Kept.{numbered-length}
 use Rattle.pcode_list.specs.Listed.{NeverShort}
 
 -- a number that says of no table that it is too short
@@ -76,16 +77,12 @@ module _ (text : List ℕ) (room : ℕ) (h : length text ≤ room) where
 
 -- ---- reading
 
-length-numbered : (i : ℕ) (text : List ℕ) (ts : List Token) → length (numbered i text ts) ≡ length ts
-length-numbered i text [] = refl
-length-numbered i text (t ∷ ts) = ap suc (length-numbered (suc i) text ts)
-
 module _ (text : List ℕ) (room n : ℕ) (h : length text ≤ room) (g : length text + 1 ≤ n) where
   roomy : {R : G.Reading} (ts : List Token) → lexText text room ≡ accepted ts → Outcome (numbered 0 text ts) (accepted R)
       → (k : ℕ) → ¬ Short (n ∷ n ∷ n ∷ n ∷ []) R k
   roomy ts e (reads r d) k =
       let f : length ts ≤ length text = subst (Few (length text)) e (lex-few text room h) in
-      ample n r (omega (arith, f, g, length-numbered 0 text ts)) k
+      ample n r (omega (arith, f, g, numbered-length text ts 0)) k
 
   other : {m p : ℕ} → Answers room (n ∷ n ∷ n ∷ n ∷ []) text (refused m p) → Other m
   other (rows₁₋₅ e) = subst (Few (length text)) e (lex-few text room h)
@@ -94,8 +91,8 @@ module _ (text : List ℕ) (room n : ℕ) (h : length text ≤ room) (g : length
   other (row₈ {ts = ts} {k = k} e r) = absurd (roomy ts e (r .outcome) k (r .short))
 
 -- so reading never says that a table is too short
-pub never-short : (text : List ℕ) (x y : Tables) (r : Reading) (n : ℕ) → length text ≤ length (x .tokens) → length text + 1 ≤ n
-    → length (x .actions) ≡ n → length (x .operands) ≡ n → length (x .levels) ≡ n → length (x .labels) ≡ n → Reads text x y r → NeverShort r
+pub never-short : (text : List ℕ) (x y : Tables ℕ) (r : Reading) (n : ℕ) → length text ≤ length (x .tokens) → length text + 1 ≤ n
+    → length (x .actions) ≡ n → length (x .operands) ≡ n → length (x .levels) ≡ n → length (x .labels) ≡ n → ReadsWords text x y r → NeverShort r
 unfolding Reads
 never-short text x y (R.Read c) n h g e₀ e₁ e₂ e₃ a = tt
 never-short text x y (R.Refused r) n h g e₀ e₁ e₂ e₃ a =

@@ -7,7 +7,7 @@ use Rattle.answers.specs.Answers.{numberOf}
 use Rattle.answers.specs.declared.Refusal.the-variants as A
 use Rattle.handover.specs.declared.Reading.{Reading}
 use Rattle.handover.specs.declared.Reading.the-variants as R
-use Rattle.handover.specs.Reading.{Tables, Reads}
+use Rattle.handover.specs.Reading.{Tables, ReadsWords}
 use Rattle.pcode_list.specs.declared.Input.{Input}
 use Rattle.pcode_list.specs.declared.Input.the-variants as I
 
@@ -17,9 +17,9 @@ NeverShort (R.Read c) = Unit {0}
 NeverShort (R.Refused r) = (¬ (numberOf r ≡ 5)) × (¬ (numberOf r ≡ 8))
 
 -- the answer r to a text with the tables x lent, which are then y: row 1 from 4,097 bytes on, else reading's
-pub record Listed (text : List ℕ) (x y : Tables) (r : Reading) : Type 0 where
+pub record Listed (text : List ℕ) (x y : Tables ℕ) (r : Reading) : Type 0 where
   pub long : 4096 < length text → (r ≡ R.Refused A.TooLong) × (y ≡ x)
-  pub reads : length text ≤ 4096 → Reads text x y r
+  pub reads : length text ≤ 4096 → ReadsWords text x y r
 
 -- as many bytes as the buffer has, at most
 abbrev pub Within : List ℕ → Input → Type 0

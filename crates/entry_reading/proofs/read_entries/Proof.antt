@@ -39,9 +39,10 @@ use denote.Triple.Walked.{says, goes-none-slice, goes-gave-slice, walkOf, Walks,
 use denote.Exit.{yes}
 use denote.Signature.{plain}
 use Rattle.entries.specs.declared.Label.{Label}
+use Rattle.reading.specs.Tables.{labelEntry}
 use Rattle.handover.specs.declared.Reading.{Reading}
+use Rattle.handover.specs.Reading.{Reads, lent}
 use Rattle.label_entries.proofs.Entry.{Entry, entryTy}
-use Rattle.entry_reading.specs.Reading.{Reads, lent}
 use Rattle.entry_reading.proofs.Array.{big}
 use Rattle.entry_reading.proofs.Answer.{Answer, answerTy, answer-typed}
 use Rattle.entry_reading.proofs.Scratch.{word, wordRef, tableTy, entryRef, lends, Arg, Passed, sv, stayed}
@@ -139,7 +140,7 @@ module _ {M : Type 1} (𝓤 : URA M) (H : Heap 𝓤) (A : Atoms 𝓤) (W : Given
   Last = Unit {0} × (List ℕ × (List ℕ × (List ℕ × (List ℕ × (List Label × Unit {0})))))
 
   abbrev Told : Last → Reading → Type 0
-  Told ws r = Reads (x .now) (lent (y₁ .now) (y₂ .now) (y₃ .now) (y₄ .now) (z .now)) (lent (ws .1 .0) (ws .1 .1 .0) (ws .1 .1 .1 .0) (ws .1 .1 .1 .1 .0) (ws .1 .1 .1 .1 .1 .0)) r
+  Told ws r = Reads labelEntry (x .now) (lent (y₁ .now) (y₂ .now) (y₃ .now) (y₄ .now) (z .now)) (lent (ws .1 .0) (ws .1 .1 .0) (ws .1 .1 .1 .0) (ws .1 .1 .1 .1 .0) (ws .1 .1 .1 .1 .1 .0)) r
 
   leaves : (r : Reading) (v : Val) → Is Answer r (v ∷ []) → (ws : Last)
       → length (ws .1 .0) ≡ length (y₁ .now) → length (ws .1 .1 .0) ≡ length (y₂ .now) → length (ws .1 .1 .1 .0) ≡ length (y₃ .now) → length (ws .1 .1 .1 .1 .0) ≡ length (y₄ .now) → length (ws .1 .1 .1 .1 .1 .0) ≡ length (z .now) → Told ws r

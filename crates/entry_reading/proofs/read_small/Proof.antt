@@ -1,4 +1,4 @@
--- `entry_reading::read_small` meets its contract: `Scratch`'s walk at 4,096 words. Assumes nothing.
+-- `entry_reading::read_small` meets its contract: `Scratch`'s walk at 2,049 words. Assumes nothing.
 use Prim.Native.Nat.{_≤_}
 use native.Mathlib.Omega.{arith}
 use mathlib.Core.List.{[], _∷_}
@@ -46,7 +46,7 @@ module _ {M : Type 1} (𝓤 : URA M) (H : Heap 𝓤) (A : Atoms 𝓤) (W : Given
       (λ κs. (shr-slice-tells (named 0) (κs .0) u8, (mut-slice-tells (named 1) (κs .1 .0) u64, (mut-slice-tells (named 2) (κs .1 .1 .0) u64, (mut-slice-tells (named 3) (κs .1 .1 .1 .0) u64, (mut-slice-tells (named 4) (κs .1 .1 .1 .1 .0) u64, (mut-slice-tells (named 5) (κs .1 .1 .1 .1 .1 .0) Entry, tt)))))))
       (λ κs qs bounds a g are. needs 𝓤 (length (a .0 .now) ≤ 4096) _ (λ h. walk 𝓤 H A W mem run (κs .0) (κs .1 .0) (κs .1 .1 .0) (κs .1 .1 .1 .0) (κs .1 .1 .1 .1 .0) (κs .1 .1 .1 .1 .1 .0) (qs .0) (qs .1 .0) (qs .1 .1 .0) (qs .1 .1 .1 .0) (qs .1 .1 .1 .1 .0) (qs .1 .1 .1 .1 .1 .0)
       (a .0) (a .1 .0) (a .1 .1 .0) (a .1 .1 .1 .0) (a .1 .1 .1 .1 .0) (a .1 .1 .1 .1 .1 .0) (are .0 .0 .1) (are .1 .0 .0 .1) (are .1 .1 .0 .0 .1) (are .1 .1 .1 .0 .0 .1) (are .1 .1 .1 .1 .0 .0 .1) (are .1 .1 .1 .1 .1 .0 .0 .1)
-      (read-small.clauses 𝓤 H A mem run) tt (λ r t₁ t₂ t₃ t₄ ls told. factI 𝓤 _ (emp 𝓤) told) 4096 (omega arith) (λ _. h) (𝓣 .C) (𝓣 .Λ) (fmOf 𝓤 H (W .laws) 𝓣) known-words known-count known-put))
+      (read-small.clauses 𝓤 H A mem run) tt (λ r t₁ t₂ t₃ t₄ ls told. factI 𝓤 _ (emp 𝓤) told) 2049 (omega arith) (λ _. omega (arith, h)) (𝓣 .C) (𝓣 .Λ) (fmOf 𝓤 H (W .laws) 𝓣) known-words known-count known-put))
 
   meets : Meets 𝓤 H A read-small.signature (WpFn 𝓤 H (𝓣 .C) (𝓣 .Λ) code.function) (read-small.spec 𝓤 H A mem run)
   meets =

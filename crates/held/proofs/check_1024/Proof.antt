@@ -1,0 +1,20 @@
+-- `held::check_1024` meets its contract. Assumes nothing.
+use borrow.Author.Needs.{needs}
+use Rattle.held.proofs.Hand.{checked}
+use Rattle.held.proofs.check_1024.Statement.{statement}
+use Rattle.held.proofs.check_1024.Tie as tie
+
+returns : tie.Need-returns
+returns c = checked (c .before .before .before .before .before .read-held .ensures)
+
+pub check-1024-spec : {M : Type 1} → statement M
+check-1024-spec =
+    tie.close
+    (tie.spec
+    (λ c. search needs)
+    (λ c. search needs)
+    (λ c. search needs)
+    (λ c. search needs)
+    (λ c. search needs)
+    (λ c κs. search needs)
+    returns)

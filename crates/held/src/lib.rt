@@ -1,0 +1,211 @@
+// Reading into tables that a call holds itself, with the answer for tables that are lent: for calls that may still refuse a text
+// that reading accepts, and must then have changed nothing. Such a call reads by `read_held`, does its work, and hands over by
+// `hand_held`.
+use as2_pcode::Counts;
+use as2_pcode::Reading;
+use tables::copy_front;
+ghost use mathlib.Core.Path.{_≡_};
+ghost use mathlib.Core.List.{[], _∷_};
+ghost use Prim.Native.Nat.{_≤_, min};
+ghost use lib.ListN.{length};
+ghost use Rattle.handover.specs.Reading.{lent};
+ghost use Rattle.held.specs.Held.{Checks, Ample, Holds, tokenCount, Handable, handed};
+
+// The lesser of two numbers.
+pub fn least(a: usize, b: usize) -> usize
+    ensures { λ r. ⌜ r ≡ min a b ⌝ }
+{
+    if a < b { a } else { b }
+}
+
+// Reads a text into held tables, which have places for whatever it can have, with the answer for tables of so many places: each
+// is cut to that length, so that rows 5 and 8 come out right.
+pub fn read_held(
+    text: &[u8],
+    tokens: usize,
+    actions: usize,
+    operands: usize,
+    levels: usize,
+    labels: usize,
+    held_tokens: &mut [u64],
+    held_actions: &mut [u64],
+    held_operands: &mut [u64],
+    held_levels: &mut [u64],
+    held_labels: &mut [u64],
+) -> Reading
+    requires { ⌜ Ample (length (now text)) (lent (now «held_tokens») (now «held_actions») (now «held_operands») (now «held_levels») (now «held_labels»)) ⌝ }
+    ensures { λ r. ⌜ Holds tokens (actions ∷ operands ∷ levels ∷ labels ∷ []) (now (text .entry)) (lent (now («held_tokens» .exit)) (now («held_actions» .exit)) (now («held_operands» .exit)) (now («held_levels» .exit)) (now («held_labels» .exit))) r ⌝ }
+{
+    let t = least(tokens, held_tokens.len());
+    let a = least(actions, held_actions.len());
+    let o = least(operands, held_operands.len());
+    let l = least(levels, held_levels.len());
+    let b = least(labels, held_labels.len());
+    as2_pcode::read(
+        text,
+        &mut held_tokens[..t],
+        &mut held_actions[..a],
+        &mut held_operands[..o],
+        &mut held_levels[..l],
+        &mut held_labels[..b],
+    )
+}
+
+// Hands that many entries of the held tables over to the lent ones.
+pub fn hand_held(
+    counts: Counts,
+    held_tokens: &[u64],
+    held_actions: &[u64],
+    held_operands: &[u64],
+    held_levels: &[u64],
+    held_labels: &[u64],
+    tokens: &mut [u64],
+    actions: &mut [u64],
+    operands: &mut [u64],
+    levels: &mut [u64],
+    labels: &mut [u64],
+)
+    requires { ⌜ Handable counts (lent (now «held_tokens») (now «held_actions») (now «held_operands») (now «held_levels») (now «held_labels»)) (lent (now tokens) (now actions) (now operands) (now levels) (now labels)) ⌝ }
+    ensures { λ _. ⌜ lent (now (tokens .exit)) (now (actions .exit)) (now (operands .exit)) (now (levels .exit)) (now (labels .exit)) ≡ handed counts (lent (now («held_tokens» .entry)) (now («held_actions» .entry)) (now («held_operands» .entry)) (now («held_levels» .entry)) (now («held_labels» .entry))) (lent (now (tokens .entry)) (now (actions .entry)) (now (operands .entry)) (now (levels .entry)) (now (labels .entry))) ⌝ }
+{
+    copy_front(held_tokens, counts.tokens, tokens);
+    copy_front(held_actions, counts.actions, actions);
+    copy_front(held_operands, counts.operands, operands);
+    copy_front(held_levels, counts.levels, levels);
+    copy_front(held_labels, counts.labels, labels);
+}
+
+// How many tokens were read.
+pub fn token_count(reading: Reading) -> usize
+    ensures { λ r. ⌜ r ≡ tokenCount reading ⌝ }
+{
+    match reading {
+        Reading::Read(counts) => counts.tokens,
+        Reading::Refused(_) => 0,
+    }
+}
+
+// ---- what reading would answer with tables of so many places
+
+fn check_1024(
+    text: &[u8],
+    tokens: usize,
+    actions: usize,
+    operands: usize,
+    levels: usize,
+    labels: usize,
+) -> Reading
+    requires { ⌜ length (now text) ≤ 1024 ⌝ }
+    ensures { λ r. ⌜ Checks tokens (actions ∷ operands ∷ levels ∷ labels ∷ []) (now (text .entry)) r ⌝ }
+{
+    let mut held_tokens = [0u64; 1024];
+    let mut held_actions = [0u64; 513];
+    let mut held_operands = [0u64; 513];
+    let mut held_levels = [0u64; 513];
+    let mut held_labels = [0u64; 513];
+    read_held(
+        text,
+        tokens,
+        actions,
+        operands,
+        levels,
+        labels,
+        &mut held_tokens,
+        &mut held_actions,
+        &mut held_operands,
+        &mut held_levels,
+        &mut held_labels,
+    )
+}
+
+// A function that calls itself has a frame of its own: the compiler does not merge it into its caller's, which a small text would
+// pay for. No text leads to such a call: it has no more tokens than bytes.
+
+fn check_4096(
+    text: &[u8],
+    tokens: usize,
+    actions: usize,
+    operands: usize,
+    levels: usize,
+    labels: usize,
+) -> Reading
+    requires { ⌜ length (now text) ≤ 4096 ⌝ }
+    ensures { λ r. ⌜ Checks tokens (actions ∷ operands ∷ levels ∷ labels ∷ []) (now (text .entry)) r ⌝ }
+{
+    let mut held_tokens = [0u64; 4096];
+    let mut held_actions = [0u64; 2049];
+    let mut held_operands = [0u64; 2049];
+    let mut held_levels = [0u64; 2049];
+    let mut held_labels = [0u64; 2049];
+    let reading = read_held(
+        text,
+        tokens,
+        actions,
+        operands,
+        levels,
+        labels,
+        &mut held_tokens,
+        &mut held_actions,
+        &mut held_operands,
+        &mut held_levels,
+        &mut held_labels,
+    );
+    if text.len() < token_count(reading) {
+        return check_4096(text, tokens, actions, operands, levels, labels);
+    }
+    reading
+}
+
+fn check_65536(
+    text: &[u8],
+    tokens: usize,
+    actions: usize,
+    operands: usize,
+    levels: usize,
+    labels: usize,
+) -> Reading
+    ensures { λ r. ⌜ Checks tokens (actions ∷ operands ∷ levels ∷ labels ∷ []) (now (text .entry)) r ⌝ }
+{
+    let mut held_tokens = [0u64; 65536];
+    let mut held_actions = [0u64; 32769];
+    let mut held_operands = [0u64; 32769];
+    let mut held_levels = [0u64; 32769];
+    let mut held_labels = [0u64; 32769];
+    let reading = read_held(
+        text,
+        tokens,
+        actions,
+        operands,
+        levels,
+        labels,
+        &mut held_tokens,
+        &mut held_actions,
+        &mut held_operands,
+        &mut held_levels,
+        &mut held_labels,
+    );
+    if text.len() < token_count(reading) {
+        return check_65536(text, tokens, actions, operands, levels, labels);
+    }
+    reading
+}
+
+// What reading would answer with tables of so many places; nothing is lent, and nothing written.
+pub fn check(
+    text: &[u8],
+    tokens: usize,
+    actions: usize,
+    operands: usize,
+    levels: usize,
+    labels: usize,
+) -> Reading
+    ensures { λ r. ⌜ Checks tokens (actions ∷ operands ∷ levels ∷ labels ∷ []) (now (text .entry)) r ⌝ }
+{
+    if text.len() <= 1024 {
+        return check_1024(text, tokens, actions, operands, levels, labels);
+    }
+    if text.len() <= 4096 {
+        return check_4096(text, tokens, actions, operands, levels, labels);
+    }
+    check_65536(text, tokens, actions, operands, levels, labels)
+}
