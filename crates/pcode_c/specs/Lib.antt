@@ -1,1 +1,1 @@
-pub mod Boundary
+pub mod ReadFor

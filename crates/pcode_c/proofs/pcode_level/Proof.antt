@@ -1,46 +1,18 @@
 -- `pcode_c::pcode_level` meets its contract. Assumes nothing.
 use borrow.Author.Needs.{needs}
-use mathlib.Core.Path.{_∙_}
-use mir.Syntax.{w64}
-use mir.Val.{SFits}
-use mir.ValLaws.{toZ-ofZ}
-use Rattle.pcode_c.proofs.Boundary as laws
+use mathlib.Core.Path.{ap, _∙_}
+use Rattle.entries.specs.declared.Level.{Level}
+use Rattle.c_entries.specs.Entries.{levelAfter, heightAfter}
 use Rattle.pcode_c.proofs.pcode_level.Statement.{statement}
 use Rattle.pcode_c.proofs.pcode_level.Tie as tie
 
-fits : (c : tie.After-net-height) → SFits w64 (c .net-height .result)
-fits c = search needs
-
-written : tie.Need-returns
-written c =
-    let k = c .before .before in
-    let p = k .before .before in
-    let l = p .before .level-of in
-    let a = p .before .before .args in (
-      laws.level-written
-          (l .ensures)
-          (p .block-part .ensures)
-          (k .before .block-action .ensures)
-          (k .net-kind .ensures)
-          (c .before .net-action .ensures)
-          (a .out .now),
-      laws.height-written (l .ensures) (toZ-ofZ w64 (c .net-height .result) (fits c) ∙ c .net-height .ensures) (a .height .now),
+told : tie.Need-returns
+told c =
+    let w = c .before .before .before in
+    let a = w .before .args in (
+      c .tell-level .ensures .0 ∙ ap (λ (x : Level). levelAfter x (a .out .now)) (w .level-of .ensures),
+      c .tell-level .ensures .1 ∙ ap (λ (x : Level). heightAfter x (a .height .now)) (w .level-of .ensures),
     )
 
 pub pcode-level-spec : {M : Type 1} → statement M
-pcode-level-spec =
-    tie.close
-    (tie.spec
-    (λ c κs. search needs)
-    (λ c κs. search needs)
-    (λ c. search needs)
-    (λ c κs. search needs)
-    (λ c. search needs)
-    (λ c. search needs)
-    (λ c κs. search needs)
-    (λ c. search needs)
-    (λ c κs. search needs)
-    (λ c. search needs)
-    (λ c κs. search needs)
-    (λ c. search needs)
-    written)
+pcode-level-spec = tie.close (tie.spec (λ c κs. search needs) (λ c κs. search needs) told)

@@ -1,12 +1,12 @@
--- `pcode_c::net_height` meets its contract, case by case. Assumes nothing.
+-- `c_entries::net_height` meets its contract, case by case. Assumes nothing.
 use borrow.Author.Needs.{needs}
 use mathlib.Core.Path.{sym, ap, _∙_}
 use mir.Syntax.{w64}
 use mir.Val.{SFits}
 use mir.ValLaws.{toZ-ofZ}
-use Rattle.pcode_c.specs.Boundary.{netHeight}
-use Rattle.pcode_c.proofs.net_height.Statement.{statement}
-use Rattle.pcode_c.proofs.net_height.Tie as tie
+use Rattle.c_entries.specs.Entries.{netHeight}
+use Rattle.c_entries.proofs.net_height.Statement.{statement}
+use Rattle.c_entries.proofs.net_height.Tie as tie
 
 fits : (c : tie.After-known-told) → SFits w64 (c .before .n .given .0 .0)
 fits c = search needs

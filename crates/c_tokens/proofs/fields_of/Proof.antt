@@ -1,4 +1,4 @@
--- `pcode_c::fields_of` meets its contract, case by case. Assumes nothing.
+-- `c_tokens::fields_of` meets its contract, case by case. Assumes nothing.
 use borrow.Author.Needs.{needs}
 use mathlib.Core.Path.{sym, ap, _∙_}
 use lib.IntN.{pos}
@@ -6,9 +6,9 @@ use mir.Syntax.{w32}
 use mir.Val.{SFits}
 use mir.ValLaws.{toZ-pos, toZ-ofZ}
 use Rattle.tokens.specs.Tokens.{span}
-use Rattle.pcode_c.specs.Boundary.{fieldsOf, valueWith}
-use Rattle.pcode_c.proofs.fields_of.Statement.{statement}
-use Rattle.pcode_c.proofs.fields_of.Tie as tie
+use Rattle.c_tokens.specs.Tokens.{fieldsOf, valueWith}
+use Rattle.c_tokens.proofs.fields_of.Statement.{statement}
+use Rattle.c_tokens.proofs.fields_of.Tie as tie
 
 null : tie.Need-returns
 null c = c .value-with .ensures ∙ sym (ap fieldsOf (c .before .enum-told .given .1))
