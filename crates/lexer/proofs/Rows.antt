@@ -14,7 +14,7 @@ use Rattle.tokens.specs.declared.Token.{Token}
 use Rattle.tokens.specs.Tokens.{wordOf}
 use Rattle.utf8.specs.Utf8.{validUpTo}
 use Rattle.lexer.specs.Lexing.{Handed, Lexes, counted, fitting, lexFrom, lexText}
-use Rattle.lexer.specs.Scratch.{LexesUtf8, Stored, wordsOf}
+use Rattle.lexer.specs.Scratch.{LexesUtf8, Stored, countOf, wordsOf}
 use Rattle.lexer.specs.declared.Lexing.{Lexing}
 use Rattle.lexer.specs.declared.Lexing.the-variants as L
 
@@ -44,13 +44,17 @@ all (refused m k) x y z n e w h f = let z : _≡_ {A = ℕ} 0 1 = cc in absurd (
 -- rows 3 to 5, from what stands in the scratch table z
 module _ (s x z : List ℕ) where
   pub row34 : (r : Refusal) → Stored s z (L.Refused r) → LexesUtf8 s x x (L.Refused r)
-  row34 r h = refuses (lexFrom s 0 0) x r (h .answered)
+  row34 r h = (refuses (lexFrom s 0 0) x r (h .answered), h .few)
 
   pub row5 : (n : ℕ) → Stored s z (L.Tokens n) → length x < n → LexesUtf8 s x x (L.Refused (R.TokenTableShort n))
-  row5 n h g = too-many (lexFrom s 0 0) x n (h .answered) g
+  row5 n h g = (too-many (lexFrom s 0 0) x n (h .answered) g, omega arith)
 
   pub accept : (n : ℕ) → Stored s z (L.Tokens n) → n ≤ length x → (y : List ℕ) → y ≡ take n z ++ drop n x → LexesUtf8 s x y (L.Tokens n)
-  accept n h g y e = all (lexFrom s 0 0) x y z n (h .answered) (h .words) g e
+  accept n h g y e = (all (lexFrom s 0 0) x y z n (h .answered) (h .words) g e, h .few)
+
+-- no text has more tokens than bytes
+pub no-more : {r : Lexing} {n m : ℕ} → r ≡ L.Tokens n → countOf r ≤ m → m < n → ⊥
+no-more e h g = omega (arith, ap countOf e)
 
 module _ (s x : List ℕ) where
   pub row1 : 65536 < length s → Lexes s x x (L.Refused R.TooLong)
@@ -67,4 +71,4 @@ module _ (s x : List ℕ) where
 
     pub rows345 : length s ≤ v → (y : List ℕ) (r : Lexing) → LexesUtf8 s x y r → Lexes s x y r
     unfolding lexText
-    rows345 valid y r h = simp (le-ltb 65536 (length s) short, ← ev, le-ltb v (length s) valid) h
+    rows345 valid y r h = simp (le-ltb 65536 (length s) short, ← ev, le-ltb v (length s) valid) (h .0)

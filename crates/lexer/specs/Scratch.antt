@@ -33,6 +33,6 @@ pub record Stored (s x : List ℕ) (r : Lexing) : Type 0 where
   pub words : take (countOf r) x ≡ wordsOf (lexFrom s 0 0)
   pub few : countOf r ≤ length s
 
--- rows 3 to 5
+-- rows 3 to 5; there are no more tokens than bytes
 abbrev pub LexesUtf8 : List ℕ → List ℕ → List ℕ → Lexing → Type 0
-LexesUtf8 s x y r = Handed (fitting (length x) (lexFrom s 0 0)) x y r
+LexesUtf8 s x y r = Handed (fitting (length x) (lexFrom s 0 0)) x y r × (countOf r ≤ length s)

@@ -195,7 +195,7 @@ fn hand_over(text: &[u8], scratch: &mut [u64], table: &mut [u64]) -> Lexing
     }
 }
 
-// A small text does not pay for the scratch of a large one.
+// A small text does not pay for the scratch of a large one: a function that calls itself, where no text leads, has a frame of its own.
 fn lex_1024(text: &[u8], table: &mut [u64]) -> Lexing
     requires { ⌜ length (now text) ≤ 1024 ⌝ }
     ensures { λ r. ⌜ LexesUtf8 (now (text .entry)) (now (table .entry)) (now (table .exit)) r ⌝ }
@@ -209,7 +209,13 @@ fn lex_8192(text: &[u8], table: &mut [u64]) -> Lexing
     ensures { λ r. ⌜ LexesUtf8 (now (text .entry)) (now (table .entry)) (now (table .exit)) r ⌝ }
 {
     let mut scratch = [0u64; 8192];
-    hand_over(text, &mut scratch, table)
+    let answer = hand_over(text, &mut scratch, table);
+    if let Lexing::Tokens(n) = answer {
+        if text.len() < n {
+            return lex_8192(text, table);
+        }
+    }
+    answer
 }
 
 fn lex_65536(text: &[u8], table: &mut [u64]) -> Lexing
@@ -217,7 +223,13 @@ fn lex_65536(text: &[u8], table: &mut [u64]) -> Lexing
     ensures { λ r. ⌜ LexesUtf8 (now (text .entry)) (now (table .entry)) (now (table .exit)) r ⌝ }
 {
     let mut scratch = [0u64; 65536];
-    hand_over(text, &mut scratch, table)
+    let answer = hand_over(text, &mut scratch, table);
+    if let Lexing::Tokens(n) = answer {
+        if text.len() < n {
+            return lex_65536(text, table);
+        }
+    }
+    answer
 }
 
 // All tokens of a text, in the lent table, or refusals 1 to 5.
