@@ -5,7 +5,7 @@
  * A patch that is refused prints `refused N at P`; include/pcode.h tells what N and P mean. The exit status is 0 if the patch was
  * read, 1 if it was refused, 2 if there was no patch to read or nowhere to print.
  *
- * Stack: pcode_read takes up to 5.2 MB. A main thread usually has 8 MB (`ulimit -s`); to call it from another
+ * Stack: pcode_read takes up to 2.0 MB. A main thread usually has 8 MB (`ulimit -s`); to call it from another
  * thread, give that thread as much (pthread_attr_setstacksize). */
 #include <errno.h>
 #include <stdint.h>

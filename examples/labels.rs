@@ -26,7 +26,7 @@ mod pcode {
         }
     }
 
-    /// `pcode_read` takes up to 5.2 MB of stack; a thread that Rust starts has 2 MB unless it is told otherwise.
+    /// `pcode_read` takes up to 2.0 MB of stack; a thread that Rust starts has 2 MB unless it is told otherwise.
     pub const STACK: usize = 8 << 20;
 
     /// A text over 65,536 bytes is refused with 1.

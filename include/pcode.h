@@ -18,9 +18,9 @@
  * words and numbers are answered.
  *
  * What a call does: it writes what is told here and nothing else. It keeps no pointer, has no state and allocates nothing, so threads
- * may call at the same time with tables and out of their own. Stack: pcode_read 5.2 MB (0.2 MB for a text of up to 1,024 bytes,
- * 0.7 MB up to 4,096), pcode_lex 0.6 MB, the others less than 4 KB. A thread may have less unless it is given more; a main thread
- * usually has 8 MB.
+ * may call at the same time with tables and out of their own. Stack, by the length of the text: pcode_read 0.2 MB up to 4,096 bytes,
+ * 1.2 MB up to 16,384, 2.0 MB for any; pcode_lex 12 KB up to 1,024 bytes, 0.1 MB up to 4,096, 0.6 MB for any; the others less than
+ * 1 KB (measured: compare/stack). A thread may have less unless it is given more; a main thread usually has 8 MB.
  *
  * A call that can refuse returns 0, or the number of the refusal. A refusal changes no table. Its place goes to out[0] of pcode_lex and
  * pcode_read, the rest of out staying as it was; pcode_delta and pcode_value then write nothing.
@@ -37,7 +37,8 @@
  * They are tried in this order, but of 3 and 4, and of 6 and 7, the earlier place wins. pcode_lex gives 1 to 5, pcode_read 1 to 8,
  * pcode_delta 1 and 9, pcode_value 1 and 6.
  *
- * What is returned and written is proved, for every argument (crates/pcode_c/specs/Boundary.antt). Stack and time are not.
+ * What is returned and written is proved, for every argument: the contracts in crates/pcode_c/src/lib.rt, over the definitions of
+ * crates/c_tokens/specs and crates/c_entries/specs. Stack and time are not.
  */
 #ifndef PCODE_H
 #define PCODE_H
@@ -57,7 +58,7 @@ extern "C" {
 uint64_t pcode_lex(const uint8_t *text, size_t text_len, uint64_t *table, size_t table_len, uint64_t out[1]);
 
 /* Reading: the tokens, actions, operands, levels and labels of a text at the front of the lent tables; what stands behind them stays.
- * out[0] to out[4]: how many of each there are. Never too short are tables of text_len places, and text_len + 1 for the levels.
+ * out[0] to out[4]: how many of each there are. Never too short are text_len places for tokens and text_len / 2 + 1 for each other table.
  *   tokens    in the order of the text, as pcode_lex gives them
  *   actions   as written, an outer action before its body
  *   operands  by action, then as written: its string, value, number, bool, register and label tokens outside its blocks, one each; a
