@@ -1,5 +1,4 @@
 pub mod Rows
-pub mod Scratch
 pub mod Kept
 pub mod Handed
 pub mod Theorems

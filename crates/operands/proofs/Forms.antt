@@ -28,13 +28,13 @@ use Rattle.machine.specs.Depth.{fault}
 use Rattle.operands.specs.declared.At.{At}
 use Rattle.operands.specs.declared.Step.{Step}
 use Rattle.operands.specs.declared.Step.the-variants.{To, Bad}
-use Rattle.operands.specs.declared.Class.{Class}
-use Rattle.operands.specs.declared.Class.the-variants as C
-use Rattle.operands.specs.Lexemes.{lexemeOf, kindAt, classOf, classAt, fitsAt, actingAs, countAt, isInteger, isCountAt}
+use Rattle.classes.specs.declared.Class.{Class}
+use Rattle.classes.specs.declared.Class.the-variants as C
+use Rattle.classes.specs.Lexemes.{lexemeOf, kindAt, classOf, classAt, fitsAt, actingAs, countAt, isInteger, isCountAt}
 use Rattle.events.specs.Log.{logWord}
 use Rattle.operands.specs.Log.{Log, log, passed, logged}
 use Rattle.operands.specs.Contract.{judge, outcome, Fine, Ahead, Reads, nothing, at-end as action-ends, OperandRead, CommaRead, NextRead, TwoRead, ThreeRead, repeated, RepeatRead, paired, PairRead, PairsRead, NameRead, CountRead, NamesRead, FunctionRead, FlagsRead, FlagsPairsRead, RegistersRead, Function2Read, FrameRead, ValuesRead, ListRead, left, OperandsRead}
-use Rattle.operands.proofs.OneToken.{kind-inside, fits-inside, fits-there, count-inside, is-count-inside, is-count-there}
+use Rattle.classes.proofs.OneToken.{kind-inside, fits-inside, fits-there, count-inside, is-count-inside, is-count-there}
 use Rattle.operands.proofs.Places.{at-step, at-stop, at-end, past-same}
 use Rattle.operands.proofs.Runs.{Refuses, passed-fine, passed-on, logged-on, further-on, kind-there, as-to, on-to, refusal, then, fails, framed, both, first-fails, stays, loop-start, loop-then, loop-ends}
 

@@ -1,4 +1,3 @@
-pub mod OneToken
 pub mod Places
 pub mod Runs
 pub mod Forms

@@ -8,7 +8,7 @@ use native.Mathlib.Omega.{arith}
 use lib.ListN.{length, getD, drop, length-drop, drop-of-length-le}
 use Rattle.machine.specs.Machine.{Nesting, top, inner, State, Symbol, level, Output, stop, go, move, may-end, puts}
 use Rattle.machine.specs.Depth.{fault, limited-proceed, within-room, room-after}
-use Rattle.operands.specs.Lexemes.{lexemeOf, lexemesFrom, lexemes}
+use Rattle.classes.specs.Lexemes.{lexemeOf, lexemesFrom, lexemes}
 use Rattle.operands.specs.Log.{Log, emit}
 use Rattle.operands.specs.Contract.{judge}
 

@@ -21,12 +21,12 @@ use Rattle.operands.proofs.Step.{the-type}
 use Rattle.operands.specs.declared.At.{At}
 use Rattle.operands.specs.declared.Step.{Step}
 use Rattle.operands.specs.declared.Step.the-variants.{To, Bad, Deep}
-use Rattle.operands.specs.declared.Class.{Class}
-use Rattle.operands.specs.Lexemes.{lexemeOf, kindAt, classOf, classAt, fitsAt}
+use Rattle.classes.specs.declared.Class.{Class}
+use Rattle.classes.specs.Lexemes.{lexemeOf, kindAt, classOf, classAt, fitsAt}
 use Rattle.events.specs.Log.{logWord}
 use Rattle.operands.specs.Log.{Log, log, passed, logged}
 use Rattle.operands.specs.Contract.{judge, outcome, Fine, Onward, Ahead, Reads, Passes, nothing, OperandRead, CommaRead, NextRead}
-use Rattle.operands.proofs.OneToken.{kind-inside, kind-past, fits-inside, fits-there}
+use Rattle.classes.proofs.OneToken.{kind-inside, kind-past, fits-inside, fits-there}
 use Rattle.operands.proofs.Places.{at-step, at-stop, at-end}
 
 -- a refusal

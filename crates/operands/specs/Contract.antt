@@ -14,9 +14,9 @@ use Rattle.machine.specs.Depth.{Verdict, fault, too-deep, limited}
 use Rattle.operands.specs.declared.At.{At}
 use Rattle.operands.specs.declared.Step.{Step}
 use Rattle.operands.specs.declared.Step.the-variants.{To, Bad, Deep}
-use Rattle.operands.specs.declared.Class.{Class}
-use Rattle.operands.specs.declared.Class.the-variants as C
-use Rattle.operands.specs.Lexemes.{Sound, lexemes, classOf, countAt}
+use Rattle.classes.specs.declared.Class.{Class}
+use Rattle.classes.specs.declared.Class.the-variants as C
+use Rattle.classes.specs.Lexemes.{Sound, lexemes, classOf, countAt}
 use Rattle.operands.specs.Log.{Log, log, emit}
 
 -- the machine's verdict from a place on

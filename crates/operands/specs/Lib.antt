@@ -1,3 +1,2 @@
-pub mod Lexemes
 pub mod Log
 pub mod Contract

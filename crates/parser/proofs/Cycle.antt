@@ -30,11 +30,11 @@ use Rattle.machine.specs.Depth.{read, fault}
 use Rattle.operands.specs.declared.At.{At}
 use Rattle.operands.specs.declared.Step.{Step}
 use Rattle.operands.specs.declared.Step.the-variants.{To, Bad, Deep}
-use Rattle.operands.specs.Lexemes.{kindAt}
+use Rattle.classes.specs.Lexemes.{kindAt}
 use Rattle.events.specs.Log.{Holdable, logWord}
 use Rattle.operands.specs.Log.{Log, log, emit, passed, logged, partNumber}
 use Rattle.operands.specs.Contract.{judge, outcome, Fine, Onward, Ahead, Reads, at-end as action-ends, left, OperandsRead}
-use Rattle.operands.proofs.OneToken.{kind-inside}
+use Rattle.classes.proofs.OneToken.{kind-inside}
 use Rattle.operands.proofs.Places.{lexemes-end, at-step, at-stop, at-end}
 use Rattle.operands.proofs.Runs.{Refuses, passed-on, logged-fine, logged-on, here, further-on, kind-there, on-to, refusal}
 use Rattle.parser.proofs.Handler.{the-type as handler-type}

@@ -21,12 +21,12 @@ use Rattle.machine.specs.Machine.{Nesting, inner, Handlers, no-handlers, after-
 use Rattle.operands.specs.declared.At.{At}
 use Rattle.operands.specs.declared.Step.{Step}
 use Rattle.operands.specs.declared.Step.the-variants.{To, Bad, Deep}
-use Rattle.operands.specs.declared.Class.the-variants as C
-use Rattle.operands.specs.Lexemes.{lexemeOf, kindAt, classAt, fitsAt}
+use Rattle.classes.specs.declared.Class.the-variants as C
+use Rattle.classes.specs.Lexemes.{lexemeOf, kindAt, classAt, fitsAt}
 use Rattle.events.specs.Log.{Holdable, logWord}
 use Rattle.operands.specs.Log.{Log, log, emit, passed, logged}
 use Rattle.operands.specs.Contract.{judge, outcome, Fine, Ahead}
-use Rattle.operands.proofs.OneToken.{kind-inside, kind-past, fits-inside, fits-there}
+use Rattle.classes.proofs.OneToken.{kind-inside, kind-past, fits-inside, fits-there}
 use Rattle.operands.proofs.Places.{at-move, at-step, at-stop, at-end, past-same}
 use Rattle.operands.proofs.Runs.{passed-fine, passed-on, logged-fine, logged-on, here, further-on, kind-there, mark-ok, mark-bad}
 use Rattle.parser.specs.declared.CatchTarget.{CatchTarget}

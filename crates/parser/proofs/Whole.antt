@@ -20,7 +20,7 @@ use Rattle.grammar.proofs.Outcomes.{Means, is-read, not-grammatical, opens-too-
 use Rattle.operands.specs.declared.At.{At}
 use Rattle.operands.specs.declared.Step.{Step}
 use Rattle.operands.specs.declared.Step.the-variants.{To, Bad, Deep}
-use Rattle.operands.specs.Lexemes.{Sound, lexemes}
+use Rattle.classes.specs.Lexemes.{Sound, lexemes}
 use Rattle.operands.specs.Log.{Log, log, eventWord, emit}
 use Rattle.operands.specs.Contract.{judge, Fine, Ahead}
 use Rattle.operands.proofs.Places.{lexemes-length}

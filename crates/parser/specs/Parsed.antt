@@ -11,7 +11,7 @@ use Rattle.grammar.specs.Trees.{events}
 use Rattle.operands.specs.declared.At.{At}
 use Rattle.operands.specs.declared.Step.{Step}
 use Rattle.operands.specs.declared.Step.the-variants.{To, Bad, Deep}
-use Rattle.operands.specs.Lexemes.{lexemes}
+use Rattle.classes.specs.Lexemes.{lexemes}
 use Rattle.operands.specs.Log.{eventWord}
 
 -- the events of a tree, as words

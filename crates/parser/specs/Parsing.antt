@@ -14,7 +14,7 @@ use Rattle.machine.specs.Depth.{Verdict, read, fault, too-deep}
 use Rattle.operands.specs.declared.At.{At}
 use Rattle.operands.specs.declared.Step.{Step}
 use Rattle.operands.specs.declared.Step.the-variants.{To, Bad, Deep}
-use Rattle.operands.specs.Lexemes.{lexemeOf, kindAt}
+use Rattle.classes.specs.Lexemes.{lexemeOf, kindAt}
 use Rattle.events.specs.Log.{logWord}
 use Rattle.operands.specs.Log.{Log, log, emit, passed}
 use Rattle.operands.specs.Contract.{judge, outcome, Fine, Ahead, Reads, Passes, nothing, at-end, left}

@@ -1,11 +1,11 @@
 // The readers of levels, actions and blocks, by the names of the Rust's parser/actions.rs. They call one another: the remaining
 // tokens fall, and no more than `room` blocks open inside one another. What they read they write into a log of events.
 use actions::action_number;
+use classes::Class;
+use classes::fits_at;
+use classes::kind_at;
 use operands::At;
-use operands::Class;
 use operands::Step;
-use operands::fits_at;
-use operands::kind_at;
 use operands::logged;
 use operands::operands;
 use operands::passed;
@@ -17,7 +17,7 @@ use tokens::token_of;
 ghost use mathlib.Core.Path.{_≡_};
 ghost use Prim.Native.Nat.{_≤_, _<_, _+_};
 ghost use lib.ListN.{length};
-ghost use Rattle.operands.specs.Lexemes.{Sound, kindAt};
+ghost use Rattle.classes.specs.Lexemes.{Sound, kindAt};
 ghost use Rattle.operands.specs.Log.{partNumber};
 ghost use Rattle.operands.specs.Contract.{Fine};
 ghost use Rattle.parser.specs.Parsing.{EndRead, ColonRead, LabelRead, NewlinesRead, HandlerRead, TargetRead, pastTarget, moveTo, GiveAsked, GiveRead, TargetBefore, BlockRead, TryRead, HandlersRead, LastRead, BlocksRead, NotClosing, Plain, ItemRead, LevelRead, partOf};

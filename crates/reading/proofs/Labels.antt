@@ -11,7 +11,7 @@ use Rattle.lexemes.proofs.Tests.{either}
 use Rattle.grammar.specs.Grammar.{Items, done, label, action, Blocks, no-blocks, block}
 use Rattle.grammar.specs.Reading as R
 use Rattle.grammar.specs.Reading.{Opened, ownActions, allActions, actionsInside, openedOf, openedIn, opened, sameName, place, ownLabels, labelsFrom}
-use Rattle.operands.specs.Lexemes.{lexemeOf}
+use Rattle.classes.specs.Lexemes.{lexemeOf}
 use Rattle.entries.specs.declared.Label as D
 use Rattle.entries.specs.Entries.{labelWord, labelOf}
 use Rattle.entries.specs.Levels.{Small}

@@ -24,7 +24,7 @@ use Rattle.grammar.specs.Refusals.{Outcome, Answers, rows₁₋₅, rows₆₋�
 use Rattle.grammar.proofs.Sizes.{fits-size, fits-halves, blocks-opened}
 use Rattle.operands.specs.declared.At.{At}
 use Rattle.operands.specs.declared.Step.the-variants.{To, Bad, Deep}
-use Rattle.operands.specs.Lexemes.{lexemes, Sound}
+use Rattle.classes.specs.Lexemes.{lexemes, Sound}
 use Rattle.operands.proofs.Places.{lexemes-length}
 use Rattle.parser.specs.Parsed as P
 use Rattle.parser.specs.Parsed.{logOf, Parsed}

@@ -11,7 +11,7 @@ use Rattle.tokens.specs.Tokens.{isWithin, rawText, tokenOf, wordOf}
 use Rattle.tokens.proofs.Words.{round-trip}
 use Rattle.lexer.proofs.Sound.{Whole, AllWhole}
 use Rattle.lexemes.specs.Lexemes.{lexeme, numbered}
-use Rattle.operands.specs.Lexemes.{lexemeOf, lexemes, lexemesFrom, Sound}
+use Rattle.classes.specs.Lexemes.{lexemeOf, lexemes, lexemesFrom, Sound}
 use Rattle.reading.specs.Trees.{All}
 use Rattle.reading.specs.Told.{Of}
 

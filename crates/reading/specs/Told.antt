@@ -13,7 +13,7 @@ use Rattle.grammar.specs.Reading.{openedOf, readingOf}
 use Rattle.grammar.specs.Nets.{nets}
 use Rattle.grammar.specs.Refusals.{Outcome, Answers}
 use Rattle.grammar.specs.Trees.{size}
-use Rattle.operands.specs.Lexemes.{lexemeOf}
+use Rattle.classes.specs.Lexemes.{lexemeOf}
 use Rattle.parser.specs.Parsed.{logOf}
 use Rattle.reading.specs.declared.Parsing.{Parsing}
 use Rattle.reading.specs.declared.Parsing.the-variants as P

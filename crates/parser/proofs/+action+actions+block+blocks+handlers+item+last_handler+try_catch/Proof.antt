@@ -35,7 +35,7 @@ use Rattle.parser.proofs.try_catch.Reads as try-catch
 use Rattle.parser.proofs.try_catch.Kinds as try-catch-kinds
 use Rattle.parser.proofs.+action+actions+block+blocks+handlers+item+last_handler+try_catch.Lts-try_catch as try-catch-lts
 use Rattle.actions.proofs.action_number.Reads as action-number-reads
-use Rattle.operands.proofs.kind_at.Reads as kind-at-reads
+use Rattle.classes.proofs.kind_at.Reads as kind-at-reads
 use Rattle.operands.proofs.logged.Reads as logged-reads
 use Rattle.operands.proofs.operands.Reads as operands-reads
 use Rattle.operands.proofs.passed.Reads as passed-reads
