@@ -14,6 +14,7 @@ use Rattle.entries.specs.declared.Net.{Net}
 use Rattle.entries.specs.declared.Net.the-variants as N
 use Rattle.entries.specs.declared.Level.{Level}
 use Rattle.entries.specs.declared.Label.{Label}
+use Rattle.entries.specs.Entries.{ownerOf}
 use Rattle.handover.specs.declared.Reading.{Reading}
 use Rattle.handover.specs.declared.Reading.the-variants as R
 
@@ -37,13 +38,6 @@ blockPart (B.Try a) = 2
 blockPart (B.Catch a) = 3
 blockPart (B.Finally a) = 4
 
-abbrev pub blockAction : Block → ℕ
-blockAction B.Top = 0
-blockAction (B.Body a) = a
-blockAction (B.Try a) = a
-blockAction (B.Catch a) = a
-blockAction (B.Finally a) = a
-
 -- whether a net is undetermined, the first undetermined action, and the height
 abbrev pub netKind : Net → ℕ
 netKind (N.Height h) = 0
@@ -60,7 +54,7 @@ netHeight (N.Undetermined a) = pos 0
 -- block, action count and net of a level, its height aside
 abbrev pub levelAfter : Level → List ℕ → List ℕ
 levelAfter l old =
-    sets old 0 (blockPart (l .block) ∷ blockAction (l .block) ∷ l .actions ∷ netKind (l .net) ∷ netAction (l .net) ∷ [])
+    sets old 0 (blockPart (l .block) ∷ ownerOf (l .block) ∷ l .actions ∷ netKind (l .net) ∷ netAction (l .net) ∷ [])
 
 abbrev pub heightAfter : Level → List ℤ → List ℤ
 heightAfter l old = sets old 0 (netHeight (l .net) ∷ [])

@@ -5,9 +5,10 @@ use entries::Label;
 use entries::Level;
 use entries::Net;
 use entries::Operand;
+use entries::owner_of;
 use handover::Reading;
 ghost use mathlib.Core.Path.{_≡_};
-ghost use Rattle.c_entries.specs.Entries.{actionAfter, operandAfter, blockPart, blockAction, netKind, netAction, netHeight, levelAfter, heightAfter, labelAfter, readNumber, readAfter};
+ghost use Rattle.c_entries.specs.Entries.{actionAfter, operandAfter, blockPart, netKind, netAction, netHeight, levelAfter, heightAfter, labelAfter, readNumber, readAfter};
 
 pub fn tell_action(action: Action, out: &mut [u64; 4])
     ensures { λ r. ⌜ now (out .exit) ≡ actionAfter action (now (out .entry)) ⌝ }
@@ -48,18 +49,6 @@ fn block_part(b: Block) -> u64
     }
 }
 
-fn block_action(b: Block) -> u64
-    ensures { λ r. ⌜ r ≡ blockAction b ⌝ }
-{
-    match b {
-        Block::Top => 0,
-        Block::Body(action) => action as u64,
-        Block::Try(action) => action as u64,
-        Block::Catch(action) => action as u64,
-        Block::Finally(action) => action as u64,
-    }
-}
-
 fn net_kind(n: Net) -> u64
     ensures { λ r. ⌜ r ≡ netKind n ⌝ }
 {
@@ -94,7 +83,7 @@ pub fn tell_level(level: Level, out: &mut [u64; 5], height: &mut [i64; 1])
     let block = level.block;
     let net = level.net;
     out[0] = block_part(block);
-    out[1] = block_action(block);
+    out[1] = owner_of(block) as u64;
     out[2] = level.actions as u64;
     out[3] = net_kind(net);
     out[4] = net_action(net);

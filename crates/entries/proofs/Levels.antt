@@ -15,8 +15,8 @@ use borrow.Author.Tests.{le-ltb, ltb-true, ltb-false}
 use Rattle.entries.specs.declared.Net.{Net}
 use Rattle.entries.specs.declared.Net.the-variants as N
 use Rattle.entries.specs.declared.Level.{Level}
-use Rattle.entries.specs.Entries.{blockNumber, partOf, blockOf, netNumber, netOf, levelWord, levelOf}
-use Rattle.entries.specs.Levels.{withAction, ownerOf, levelAt, Small, SmallNet, NetFits, SmallLevel}
+use Rattle.entries.specs.Entries.{blockNumber, partOf, blockOf, netNumber, netOf, levelWord, levelOf, ownerOf}
+use Rattle.entries.specs.Levels.{withAction, levelAt, Small, SmallNet, NetFits, SmallLevel}
 use Rattle.entries.proofs.Words.{net-small, level-back}
 
 -- ---- blocks

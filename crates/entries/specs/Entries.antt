@@ -57,6 +57,14 @@ netNumber (N.Undetermined a) = 524288 + a
 unfoldable pub netOf : ℕ → Net
 netOf n = cond (ltb n 524288) (N.Height (subℕ n 196608)) (N.Undetermined (n - 524288))
 
+-- the action that owns a block; of the top level, which has none, 0
+abbrev pub ownerOf : Block → ℕ
+ownerOf B.Top = 0
+ownerOf (B.Body a) = a
+ownerOf (B.Try a) = a
+ownerOf (B.Catch a) = a
+ownerOf (B.Finally a) = a
+
 abbrev pub levelWord : Level → ℕ
 levelWord l = blockNumber (l .block) * 1099511627776 + l .actions * 1048576 + netNumber (l .net)
 

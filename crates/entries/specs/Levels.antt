@@ -6,12 +6,11 @@ use lib.ListN.{getD}
 use Rattle.entries.specs.declared.Action.{Action}
 use Rattle.entries.specs.declared.Operand.{Operand}
 use Rattle.entries.specs.declared.Block.{Block}
-use Rattle.entries.specs.declared.Block.the-variants as B
 use Rattle.entries.specs.declared.Net.{Net}
 use Rattle.entries.specs.declared.Net.the-variants as N
 use Rattle.entries.specs.declared.Level.{Level}
 use Rattle.entries.specs.declared.Label.{Label}
-use Rattle.entries.specs.Entries.{levelOf}
+use Rattle.entries.specs.Entries.{levelOf, ownerOf}
 
 -- a level before its first action
 abbrev pub fresh : Block → Level
@@ -20,14 +19,6 @@ fresh b = record { block = b; actions = 0; net = N.Height (pos 0) }
 -- one action more, and the net behind it
 abbrev pub withAction : Net → Level → Level
 withAction n l = record { block = l .block; actions = l .actions + 1; net = n }
-
--- the action that owns a block
-abbrev pub ownerOf : Block → ℕ
-ownerOf B.Top = 0
-ownerOf (B.Body a) = a
-ownerOf (B.Try a) = a
-ownerOf (B.Catch a) = a
-ownerOf (B.Finally a) = a
 
 -- the level at a place; of its word the sixty bits that are ever written count
 unfoldable pub levelAt : List ℕ → ℕ → Level

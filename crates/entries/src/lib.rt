@@ -9,8 +9,8 @@ ghost use Prim.Native.Nat.{_-_, _≤_};
 ghost use Rattle.tokens.specs.Tokens.{tokenOf};
 ghost use lib.ListN.{getD, set};
 ghost use Rattle.entries.specs.declared.Block.the-variants as B;
-ghost use Rattle.entries.specs.Entries.{actionWord, actionOf, operandWord, operandOf, blockNumber, partOf, blockOf, netNumber, netOf, levelWord, levelOf, labelWord, labelOf};
-ghost use Rattle.entries.specs.Levels.{fresh, withAction, ownerOf, levelAt, Small, NetFits, SmallLevel, ActionFits, OperandFits, LabelFits};
+ghost use Rattle.entries.specs.Entries.{actionWord, actionOf, operandWord, operandOf, blockNumber, partOf, blockOf, netNumber, netOf, levelWord, levelOf, labelWord, labelOf, ownerOf};
+ghost use Rattle.entries.specs.Levels.{fresh, withAction, levelAt, Small, NetFits, SmallLevel, ActionFits, OperandFits, LabelFits};
 
 // Its operands are `count` entries of the operand table, from `first` on.
 pub struct Action {

@@ -15,8 +15,8 @@ use Rattle.entries.specs.declared.Block.{Block}
 use Rattle.entries.specs.declared.Block.the-variants as B
 use Rattle.entries.specs.declared.Net.the-variants as Net
 use Rattle.entries.specs.declared.Level.{Level}
-use Rattle.entries.specs.Entries.{blockNumber, levelWord}
-use Rattle.entries.specs.Levels.{withAction, ownerOf, levelAt, Small}
+use Rattle.entries.specs.Entries.{blockNumber, levelWord, ownerOf}
+use Rattle.entries.specs.Levels.{withAction, levelAt, Small}
 use Rattle.entries.proofs.Levels.{read-back}
 use Rattle.lexemes.specs.Lexemes.{Lexeme, placeOf}
 use Rattle.lexemes.specs.Events.{Part, Event}

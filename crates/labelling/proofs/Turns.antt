@@ -11,8 +11,8 @@ use Rattle.events.specs.declared.Event.{Event}
 use Rattle.events.specs.Log.{eventOf}
 use Rattle.entries.specs.declared.Net.the-variants as N
 use Rattle.entries.specs.declared.Level.{Level}
-use Rattle.entries.specs.Entries.{partOf, levelWord, labelWord}
-use Rattle.entries.specs.Levels.{fresh, withAction, ownerOf, levelAt, Small}
+use Rattle.entries.specs.Entries.{partOf, levelWord, labelWord, ownerOf}
+use Rattle.entries.specs.Levels.{fresh, withAction, levelAt, Small}
 use Rattle.labelling.specs.declared.Namer.{Namer}
 use Rattle.labelling.specs.Naming.{Naming, naming, acted, name, opened, closed, by, step, steps, Few}
 

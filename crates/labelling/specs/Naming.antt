@@ -10,8 +10,8 @@ use Rattle.events.specs.Log.{eventOf}
 use Rattle.entries.specs.declared.Block.the-variants as B
 use Rattle.entries.specs.declared.Net.the-variants as N
 use Rattle.entries.specs.declared.Level.{Level}
-use Rattle.entries.specs.Entries.{partOf, levelWord, labelWord}
-use Rattle.entries.specs.Levels.{fresh, withAction, ownerOf, levelAt, Small}
+use Rattle.entries.specs.Entries.{partOf, levelWord, labelWord, ownerOf}
+use Rattle.entries.specs.Levels.{fresh, withAction, levelAt, Small}
 use Rattle.labelling.specs.declared.Namer.{Namer}
 
 -- a table of levels in which a level is the body of the level around it, the labels, and what is open

@@ -17,8 +17,8 @@ use Rattle.tokens.specs.declared.TokenKind.{TokenKind}
 use Rattle.tokens.specs.Tokens.{tokenOf, rawText}
 use Rattle.entries.specs.declared.Action as D
 use Rattle.entries.specs.declared.Level.{Level}
-use Rattle.entries.specs.Entries.{actionWord, actionOf, operandOf, partOf, blockNumber, levelWord}
-use Rattle.entries.specs.Levels.{fresh, withAction, ownerOf, levelAt, Small}
+use Rattle.entries.specs.Entries.{actionWord, actionOf, operandOf, partOf, blockNumber, levelWord, ownerOf}
+use Rattle.entries.specs.Levels.{fresh, withAction, levelAt, Small}
 use Rattle.entries.proofs.Words.{action-back, operand-back}
 use Rattle.entries.proofs.Levels.{part-number, part-owner, read-back}
 use Rattle.pcode.specs.Deltas.{deltaOf}

@@ -13,8 +13,8 @@ use Rattle.events.specs.Log.{eventOf}
 use Rattle.entries.specs.declared.Action.{Action}
 use Rattle.entries.specs.declared.Net.{Net}
 use Rattle.entries.specs.declared.Level.{Level}
-use Rattle.entries.specs.Entries.{actionWord, actionOf, levelWord}
-use Rattle.entries.specs.Levels.{withAction, ownerOf, levelAt, Small}
+use Rattle.entries.specs.Entries.{actionWord, actionOf, levelWord, ownerOf}
+use Rattle.entries.specs.Levels.{withAction, levelAt, Small}
 use Rattle.pcode.specs.Deltas.{deltaOf}
 use Rattle.nets.specs.Nets.{firstIsEmpty, movedBy}
 use Rattle.writing.specs.declared.Writer.{Writer}

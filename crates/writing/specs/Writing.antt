@@ -12,8 +12,8 @@ use Rattle.events.specs.declared.Event.{Event}
 use Rattle.events.specs.declared.Event.the-variants as E
 use Rattle.events.specs.Log.{eventOf}
 use Rattle.entries.specs.declared.Block.the-variants as B
-use Rattle.entries.specs.Entries.{actionWord, actionOf, operandWord, partOf, levelWord}
-use Rattle.entries.specs.Levels.{fresh, withAction, ownerOf, levelAt, Small}
+use Rattle.entries.specs.Entries.{actionWord, actionOf, operandWord, partOf, levelWord, ownerOf}
+use Rattle.entries.specs.Levels.{fresh, withAction, levelAt, Small}
 use Rattle.pcode.specs.Deltas.{deltaOf}
 use Rattle.nets.specs.Nets.{firstIsEmpty, movedBy}
 use Rattle.writing.specs.declared.Writer.{Writer}
