@@ -18,7 +18,7 @@ use Rattle.words.specs.Spellings.{bytes, spellings}
 use Rattle.words.specs.Words.{indexIn, lower, sameWord}
 use Rattle.numbers.specs.Integers.{isNatural, natural, upTo, valueFrom, withByte}
 use Rattle.keywords.specs.Keywords.{keywordWords, named, numberAfter, wordKind}
-use Rattle.lexer.specs.First.{classOf, numberAt, returnAt, stringAt, wordAt}
+use Rattle.first_token.specs.First.{classOf, numberAt, returnAt, stringAt, wordAt}
 use Rattle.lexer.specs.Lexing.{counted, lexFrom, lexText}
 
 abbrev tok : TokenKind → ℕ → ℕ → Token

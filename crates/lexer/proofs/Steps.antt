@@ -12,11 +12,11 @@ use Rattle.answers.specs.declared.Refusal.the-variants as R
 use Rattle.tokens.specs.declared.TokenKind.{TokenKind}
 use Rattle.tokens.specs.declared.Token.{Token}
 use Rattle.tokens.specs.Tokens.{span, tokenIn, wordOf}
-use Rattle.lexer.specs.First.{first}
+use Rattle.first_token.specs.First.{first}
+use Rattle.first_token.specs.declared.Found.{Found}
+use Rattle.first_token.specs.declared.Found.the-variants as F
 use Rattle.lexer.specs.Lexing.{before, counted, lexFrom, then}
 use Rattle.lexer.specs.Scratch.{Stored, wordsOf}
-use Rattle.lexer.specs.declared.Found.{Found}
-use Rattle.lexer.specs.declared.Found.the-variants as F
 use Rattle.lexer.specs.declared.Lexing.the-variants as L
 
 -- the bytes that end a token are passed over

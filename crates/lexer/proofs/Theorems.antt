@@ -15,14 +15,14 @@ use Rattle.answers.specs.Answers.{Answer, accepted, refused}
 use Rattle.tokens.specs.declared.TokenKind.{TokenKind}
 use Rattle.tokens.specs.declared.Token.{Token}
 use Rattle.tokens.specs.Tokens.{span, tokenIn}
-use Rattle.lexer.specs.First.{first}
+use Rattle.first_token.specs.First.{first}
+use Rattle.first_token.specs.Fitting.{Fitting}
+use Rattle.first_token.specs.declared.Found.{Found}
+use Rattle.first_token.specs.declared.Found.the-variants as F
+use Rattle.first_token.proofs.Blanks.{blank-byte}
+use Rattle.first_token.proofs.Firsts.{first-fits}
 use Rattle.lexer.specs.Lexing.{before, lexFrom}
-use Rattle.lexer.specs.Scratch.{Fitting}
 use Rattle.lexer.specs.Spans.{Blanks, Spans}
-use Rattle.lexer.specs.declared.Found.{Found}
-use Rattle.lexer.specs.declared.Found.the-variants as F
-use Rattle.lexer.proofs.Blanks.{blank-byte}
-use Rattle.lexer.proofs.Firsts.{first-fits}
 use Rattle.lexer.proofs.Steps.{blank, cut, lex-end, lone, next}
 
 module _ (s : List ℕ) where

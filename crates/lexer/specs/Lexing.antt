@@ -9,9 +9,9 @@ use Rattle.answers.specs.Answers.{Answer, accepted, refused, refusal}
 use Rattle.tokens.specs.declared.Token.{Token}
 use Rattle.tokens.specs.Tokens.{span, tokenIn, wordOf}
 use Rattle.utf8.specs.Utf8.{validUpTo}
-use Rattle.lexer.specs.First.{first}
-use Rattle.lexer.specs.declared.Found.{Found}
-use Rattle.lexer.specs.declared.Found.the-variants as F
+use Rattle.first_token.specs.First.{first}
+use Rattle.first_token.specs.declared.Found.{Found}
+use Rattle.first_token.specs.declared.Found.the-variants as F
 use Rattle.lexer.specs.declared.Lexing.{Lexing}
 use Rattle.lexer.specs.declared.Lexing.the-variants as L
 

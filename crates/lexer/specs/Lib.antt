@@ -1,4 +1,3 @@
-pub mod First
 pub mod Lexing
 pub mod Scratch
 pub mod Spans

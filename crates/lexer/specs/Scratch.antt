@@ -1,23 +1,14 @@
 -- What the inner functions of lexing ensure of their scratch table. Of the calls for other crates only `lex_into` cites it.
 use mathlib.Core.Path.{_≡_}
 use mathlib.Core.List.{List, [], map}
-use Prim.Native.Nat.{ℕ, _≤_, _<_}
+use Prim.Native.Nat.{ℕ, _≤_}
 use lib.ListN.{length, take}
 use Rattle.answers.specs.Answers.{Answer, accepted, refused}
 use Rattle.tokens.specs.declared.Token.{Token}
 use Rattle.tokens.specs.Tokens.{wordOf}
 use Rattle.lexer.specs.Lexing.{Handed, answer, counted, fitting, lexFrom}
-use Rattle.lexer.specs.declared.Found.{Found}
-use Rattle.lexer.specs.declared.Found.the-variants as F
 use Rattle.lexer.specs.declared.Lexing.{Lexing}
 use Rattle.lexer.specs.declared.Lexing.the-variants as L
-
--- a token is not empty and ends within the n bytes that are left
-abbrev pub Fitting : ℕ → Found → Type 0
-Fitting n F.Blank = Unit {0}
-Fitting n (F.Token k e) = (0 < e) × (e ≤ n)
-Fitting n F.LoneQuote = Unit {0}
-Fitting n F.CutCharacter = Unit {0}
 
 abbrev pub countOf : Lexing → ℕ
 countOf (L.Tokens n) = n

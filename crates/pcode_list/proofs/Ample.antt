@@ -10,10 +10,10 @@ use borrow.Author.Tests.{le-ltb}
 use Rattle.answers.specs.Answers.{Answer, accepted, refused, refusal}
 use Rattle.tokens.specs.declared.Token.{Token}
 use Rattle.utf8.specs.Utf8.{validUpTo}
-use Rattle.lexer.specs.First.{first}
+use Rattle.first_token.specs.First.{first}
+use Rattle.first_token.specs.declared.Found.{Found}
+use Rattle.first_token.specs.declared.Found.the-variants as F
 use Rattle.lexer.specs.Lexing.{before, then, lexFrom, fitting, lexText}
-use Rattle.lexer.specs.declared.Found.{Found}
-use Rattle.lexer.specs.declared.Found.the-variants as F
 use Rattle.lexer.proofs.Theorems.{few}
 use Rattle.lexemes.specs.Lexemes.{numbered}
 use Rattle.grammar.specs.Reading as G

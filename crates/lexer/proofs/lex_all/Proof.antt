@@ -4,9 +4,9 @@ use mathlib.Core.Path.{subst}
 use Prim.Native.Nat.{_-_}
 use native.Mathlib.Omega.{arith}
 use lib.ListN.{length}
-use Rattle.lexer.specs.Scratch.{Fitting}
-use Rattle.lexer.specs.declared.Found.{Found}
-use Rattle.lexer.specs.declared.Found.the-variants as F
+use Rattle.first_token.specs.Fitting.{Fitting}
+use Rattle.first_token.specs.declared.Found.{Found}
+use Rattle.first_token.specs.declared.Found.the-variants as F
 use Rattle.lexer.proofs.Steps.{Passed}
 use Rattle.lexer.proofs.Steps as laws
 use Rattle.lexer.proofs.lex_all.Statement.{statement}

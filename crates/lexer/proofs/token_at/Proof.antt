@@ -1,6 +1,6 @@
 -- `lexer::token_at` meets its contract. Assumes nothing.
 use borrow.Author.Needs.{needs}
-use Rattle.lexer.proofs.Firsts.{at-byte, at-byte-fits}
+use Rattle.first_token.proofs.Firsts.{at-byte, at-byte-fits}
 use Rattle.lexer.proofs.token_at.Statement.{statement}
 use Rattle.lexer.proofs.token_at.Tie as tie
 

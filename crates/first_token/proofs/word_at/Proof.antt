@@ -1,12 +1,12 @@
--- `lexer::word_at` meets its contract. Assumes nothing.
+-- `first_token::word_at` meets its contract. Assumes nothing.
 use borrow.Author.Needs.{needs}
 use native.Mathlib.Omega.{arith}
 use lib.ListN.{length-take}
 use Rattle.scanner.specs.Bytes.{isWordByte}
 use Rattle.scanner.proofs.Runs.{run-fits}
-use Rattle.lexer.specs.First.{wordAt}
-use Rattle.lexer.proofs.word_at.Statement.{statement}
-use Rattle.lexer.proofs.word_at.Tie as tie
+use Rattle.first_token.specs.First.{wordAt}
+use Rattle.first_token.proofs.word_at.Statement.{statement}
+use Rattle.first_token.proofs.word_at.Tie as tie
 
 inside : tie.Need-slice-aggregate-word-kind
 inside c =

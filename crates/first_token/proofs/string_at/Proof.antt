@@ -1,11 +1,11 @@
--- `lexer::string_at` meets its contract, by the byte that the string stops at. Assumes nothing.
+-- `first_token::string_at` meets its contract, by the byte that the string stops at. Assumes nothing.
 use borrow.Author.Needs.{needs}
 use mathlib.Core.Bool.{false}
 use native.Mathlib.Omega.{arith}
 use Rattle.scanner.proofs.Runs.{stop-fits}
-use Rattle.lexer.proofs.Firsts as laws
-use Rattle.lexer.proofs.string_at.Statement.{statement}
-use Rattle.lexer.proofs.string_at.Tie as tie
+use Rattle.first_token.proofs.Firsts as laws
+use Rattle.first_token.proofs.string_at.Statement.{statement}
+use Rattle.first_token.proofs.string_at.Tie as tie
 
 past-the-quote : tie.Need-add-t6
 past-the-quote c =

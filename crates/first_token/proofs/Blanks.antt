@@ -9,11 +9,11 @@ use lib.ListN.{getD}
 use borrow.Author.Tests.{eqb-true}
 use Rattle.scanner.specs.Bytes.{between, isDigit}
 use Rattle.scanner.specs.Ends.{stringStop}
-use Rattle.lexer.specs.First.{classOf, first, firstBy, numberAt, returnAt, stringAt, wordAt}
-use Rattle.lexer.specs.declared.Class.{Class}
-use Rattle.lexer.specs.declared.Class.the-variants as C
-use Rattle.lexer.specs.declared.Found.{Found}
-use Rattle.lexer.specs.declared.Found.the-variants as F
+use Rattle.first_token.specs.First.{classOf, first, firstBy, numberAt, returnAt, stringAt, wordAt}
+use Rattle.first_token.specs.declared.Class.{Class}
+use Rattle.first_token.specs.declared.Class.the-variants as C
+use Rattle.first_token.specs.declared.Found.{Found}
+use Rattle.first_token.specs.declared.Found.the-variants as F
 
 abbrev blankClass : Class → Bool
 blankClass C.Blank = true

@@ -1,4 +1,4 @@
--- `lexer::class_of` meets its contract, arm by arm. Assumes nothing.
+-- `first_token::class_of` meets its contract, arm by arm. Assumes nothing.
 use mathlib.Core.Path.{_≡_, refl}
 use mathlib.Core.Bool.{Bool, false, _||_}
 use mathlib.Core.List.{[], _∷_}
@@ -6,10 +6,10 @@ use Prim.Native.Nat.{ℕ}
 use native.Mathlib.Omega.{arith}
 use Rattle.laws.proofs.Ranges.{anyOf, arm, none-of, other, range}
 use Rattle.tokens.specs.declared.TokenKind.the-variants as K
-use Rattle.lexer.specs.First.{classOf}
-use Rattle.lexer.specs.declared.Class.the-variants as C
-use Rattle.lexer.proofs.class_of.Statement.{statement}
-use Rattle.lexer.proofs.class_of.Tie as tie
+use Rattle.first_token.specs.First.{classOf}
+use Rattle.first_token.specs.declared.Class.the-variants as C
+use Rattle.first_token.proofs.class_of.Statement.{statement}
+use Rattle.first_token.proofs.class_of.Tie as tie
 
 -- the bytes of the arms of single bytes, an arm after another
 abbrev singles : ℕ → Bool

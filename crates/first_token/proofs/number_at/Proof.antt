@@ -1,10 +1,10 @@
--- `lexer::number_at` meets its contract. Assumes nothing.
+-- `first_token::number_at` meets its contract. Assumes nothing.
 use borrow.Author.Needs.{needs}
 use native.Mathlib.Omega.{arith}
 use Rattle.scanner.proofs.Ends.{digits-within, point-within}
-use Rattle.lexer.proofs.Firsts as laws
-use Rattle.lexer.proofs.number_at.Statement.{statement}
-use Rattle.lexer.proofs.number_at.Tie as tie
+use Rattle.first_token.proofs.Firsts as laws
+use Rattle.first_token.proofs.number_at.Statement.{statement}
+use Rattle.first_token.proofs.number_at.Tie as tie
 
 whole : tie.Need-point-end-requires
 whole c κs = omega (arith, c .digits-end .ensures, digits-within (c .before .before .args .s .now) 1 (c .before .before .pre))

@@ -8,10 +8,10 @@ use Rattle.tokens.specs.declared.TokenKind.the-variants as K
 use Rattle.scanner.specs.Bytes.{between, isDigit}
 use Rattle.scanner.specs.Ends.{digitsEnd, exponentEnd, pointEnd, stringStop, wordEnd}
 use Rattle.keywords.specs.Keywords.{wordKind}
-use Rattle.lexer.specs.declared.Class.{Class}
-use Rattle.lexer.specs.declared.Class.the-variants as C
-use Rattle.lexer.specs.declared.Found.{Found}
-use Rattle.lexer.specs.declared.Found.the-variants as F
+use Rattle.first_token.specs.declared.Class.{Class}
+use Rattle.first_token.specs.declared.Class.the-variants as C
+use Rattle.first_token.specs.declared.Found.{Found}
+use Rattle.first_token.specs.declared.Found.the-variants as F
 
 -- the first byte alone decides the class
 unfoldable pub classOf : ℕ → Class

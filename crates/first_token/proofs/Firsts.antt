@@ -13,12 +13,12 @@ use Rattle.scanner.specs.Bytes.{isWordByte}
 use Rattle.scanner.specs.Ends.{digitsEnd, exponentEnd, pointEnd, stringStop}
 use Rattle.scanner.proofs.Runs.{inside, run-fits, stop-fits}
 use Rattle.scanner.proofs.Ends.{digits-within, exponent-within, point-within}
-use Rattle.lexer.specs.First.{classOf, first, firstBy, numberAt, returnAt, stringAt, wordAt}
-use Rattle.lexer.specs.Scratch.{Fitting}
-use Rattle.lexer.specs.declared.Class.{Class}
-use Rattle.lexer.specs.declared.Class.the-variants as C
-use Rattle.lexer.specs.declared.Found.{Found}
-use Rattle.lexer.specs.declared.Found.the-variants as F
+use Rattle.first_token.specs.First.{classOf, first, firstBy, numberAt, returnAt, stringAt, wordAt}
+use Rattle.first_token.specs.Fitting.{Fitting}
+use Rattle.first_token.specs.declared.Class.{Class}
+use Rattle.first_token.specs.declared.Class.the-variants as C
+use Rattle.first_token.specs.declared.Found.{Found}
+use Rattle.first_token.specs.declared.Found.the-variants as F
 
 -- ---- by the byte that a test looked at
 

@@ -1,8 +1,8 @@
--- `lexer::return_at` meets its contract. Assumes nothing.
+-- `first_token::return_at` meets its contract. Assumes nothing.
 use borrow.Author.Needs.{needs}
-use Rattle.lexer.proofs.Firsts as laws
-use Rattle.lexer.proofs.return_at.Statement.{statement}
-use Rattle.lexer.proofs.return_at.Tie as tie
+use Rattle.first_token.proofs.Firsts as laws
+use Rattle.first_token.proofs.return_at.Statement.{statement}
+use Rattle.first_token.proofs.return_at.Tie as tie
 
 pair : tie.Need-returns
 pair c = laws.pair (c .before .before .before .args .s .now) _ (c .before .byte-at .ensures) (c .if1 .taken)

@@ -1,10 +1,10 @@
--- `lexer::first_token` meets its contract, class by class. Assumes nothing.
+-- `first_token::first_token` meets its contract, class by class. Assumes nothing.
 use borrow.Author.Needs.{needs}
 use mathlib.Core.Path.{refl}
-use Rattle.lexer.specs.declared.Class.the-variants as C
-use Rattle.lexer.proofs.Firsts.{by-class}
-use Rattle.lexer.proofs.first_token.Statement.{statement}
-use Rattle.lexer.proofs.first_token.Tie as tie
+use Rattle.first_token.specs.declared.Class.the-variants as C
+use Rattle.first_token.proofs.Firsts.{by-class}
+use Rattle.first_token.proofs.first_token.Statement.{statement}
+use Rattle.first_token.proofs.first_token.Tie as tie
 
 blank : tie.Need-returns
 blank c = by-class (c .before .before .before .before .before .before .before .before .args .s .now) _ C.Blank _ (c .before .before .class-of .ensures) (c .enum-told .given .1) refl
