@@ -1,5 +1,5 @@
--- What held tables tell: for a check, and handed over. Assumes nothing.
-use mathlib.Core.Path.{_≡_, refl, sym, ap, subst, _∙_}
+-- What held tables tell, and what they are handed over as. Assumes nothing.
+use mathlib.Core.Path.{_≡_, sym, ap, subst, _∙_}
 use mathlib.Core.List.{List, _++_}
 use Prim.Native.Nat.{ℕ}
 use lib.ListN.{length, take, drop}
@@ -11,24 +11,9 @@ use Rattle.reading.specs.Tables.{front, labelEntryWord}
 use Rattle.handover.specs.declared.Counts.{Counts}
 use Rattle.handover.specs.declared.Reading.{Reading}
 use Rattle.handover.specs.declared.Reading.the-variants as R
-use Rattle.handover.specs.Reading.{Tables, places, filled, Accepts, ReadsFor, Reads, ReadsWords}
-use Rattle.held.specs.Held.{Checks, Holds, Handable, handed}
+use Rattle.handover.specs.Reading.{Tables, places, filled, Accepts, ReadsFor}
+use Rattle.held.specs.Held.{Holds, Handable, handed}
 use Rattle.held.proofs.Fills.{Fills, inside, refilled, tokens-fill, actions-fill, operands-fill, levels-fill, labels-fill, tokens-fit, actions-fit, operands-fit, levels-fit, labels-fit}
-
--- ---- what is checked only
-
-module _ (text : List ℕ) (h k : Tables ℕ) where
-  -- whatever tables x of so many places are lent, they would be filled
-  told : (r : Reading) (x : Tables ℕ) → ReadsFor labelEntryWord (length (x .tokens)) (places x) text h k r → (y : Tables ℕ) × ReadsWords text x y r
-  unfolding Reads
-  told (R.Read c) x a = (filled labelEntryWord (a .tokens) (a .reading) (a .nets) x, refilled a refl)
-  told (R.Refused f) x a = (x, (a .0, refl))
-
-pub checked : {room : ℕ} {ps text : List ℕ} {h : Tables ℕ} {r : Reading} → Holds room ps text h r → Checks room ps text r
-checked {room} {ps} {text} {h} {r} w x e g =
-    told text (w .before) h r x
-    (subst (λ (n : ℕ). ReadsFor labelEntryWord n (places x) text (w .before) h r) (sym e)
-    (subst (λ (q : List ℕ). ReadsFor labelEntryWord room q text (w .before) h r) (sym g) (w .reads)))
 
 -- ---- what was read, and what was refused
 

@@ -1,6 +1,5 @@
--- What reading would answer with nothing lent; and tables that a call holds itself, to read a text into them, perhaps to refuse
--- it still, and to hand over at the end.
-use mathlib.Core.Path.{_≡_}
+-- Tables that a call holds itself, to read a text into them, perhaps to refuse it still, and to hand over at the end: what calls
+-- over `read` ask for and are told.
 use mathlib.Core.List.{List, _++_}
 use Prim.Native.Nat.{ℕ, _+_, _*_, _≤_}
 use lib.ListN.{length, take, drop}
@@ -8,13 +7,7 @@ use Rattle.reading.specs.Tables.{labelEntryWord}
 use Rattle.handover.specs.declared.Counts.{Counts}
 use Rattle.handover.specs.declared.Reading.{Reading}
 use Rattle.handover.specs.declared.Reading.the-variants as R
-use Rattle.handover.specs.Reading.{Tables, places, ReadsFor, ReadsWords}
-
--- what reading would answer with any tables of so many places
-abbrev pub Checks : ℕ → (ps text : List ℕ) → Reading → Type 0
-Checks room ps text r = (x : Tables ℕ) → length (x .tokens) ≡ room → places x ≡ ps → (y : Tables ℕ) × ReadsWords text x y r
-
--- ---- held tables: what calls over `read` ask for and are told
+use Rattle.handover.specs.Reading.{Tables, ReadsFor}
 
 -- places for the tokens of any text of n bytes that row 1 lets pass: one for each byte
 abbrev pub AmpleTokens : ℕ → ℕ → Type 0

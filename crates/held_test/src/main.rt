@@ -4,9 +4,9 @@
 use answers::Refusal;
 use as2_pcode::Counts;
 use as2_pcode::Reading;
+use checking::check;
 use entries::Net;
 use entries::level_in;
-use held::check;
 use held::hand_held;
 use held::read_held;
 use held::token_count;

@@ -2,7 +2,7 @@
 use entries::Label;
 use entries::label_in;
 use entries::token_in;
-use labels::same_bytes;
+use label_names::same_bytes;
 use tokens::raw_text;
 ghost use mathlib.Core.Path.{_≡_};
 ghost use mathlib.Core.List.{_++_, map};

@@ -10,7 +10,8 @@ use lib.ListN.{length, drop, getD, drop-of-length-le}
 use lib.Seq.{drop-cons}
 use Rattle.entries.specs.declared.Label.{Label}
 use Rattle.entries.specs.Entries.{labelOf}
-use Rattle.labels.specs.Labels.{nameOf, isSame}
+use Rattle.label_names.specs.Names.{nameOf}
+use Rattle.labels.specs.Labels.{isSame}
 use Rattle.labels.specs.Index.{hashOn, hashOf, bucketIn, bucketOf}
 use Rattle.labels.proofs.Same.{same-equal}
 

@@ -1,4 +1,3 @@
-pub mod Bytes
 pub mod Hashing
 pub mod Linking
 pub mod Placing

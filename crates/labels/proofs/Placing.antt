@@ -1,28 +1,19 @@
 -- One label placed among others, and labels one by one. Assumes nothing.
-use mathlib.Core.Path.{_≡_, refl, ap, sym, _∙_}
+use mathlib.Core.Path.{_≡_, refl, ap, _∙_}
 use mathlib.Core.Bool.{Bool, true, false, cond}
 use mathlib.Core.List.{List, [], _∷_, _++_}
 use Prim.Native.Nat.{ℕ, suc, _+_, _≤_, _<_}
 use native.Mathlib.Omega.{arith}
-use borrow.Author.Tests.{ne-eqb, eq-eqb}
 use lib.ListN.{length, getD, set}
 use Rattle.entries.specs.declared.Label.{Label}
 use Rattle.entries.specs.Entries.{labelOf}
 use Rattle.grammar.specs.Reading.{sameName}
-use Rattle.labels.specs.Labels.{nameOf, isNamed, isSame, moved, firstSame, placed, merged}
+use Rattle.label_names.specs.Names.{nameOf, isNamed}
+use Rattle.label_names.proofs.Named.{not-named, named}
+use Rattle.labels.specs.Labels.{isSame, moved, firstSame, placed, merged}
 
 module _ (text s : List ℕ) where
   -- ---- two labels
-
-  module _ (level : ℕ) (name : List ℕ) (v : ℕ) where
-    pub not-named : {l : Label} → l ≡ labelOf v → (level ≡ l .level → ⊥) → false ≡ isNamed text s level name v
-    not-named k d = simp (ne-eqb _ _ (λ e. d (e ∙ sym (ap (λ (q : Label). q .level) k))))
-
-    named : level ≡ labelOf v .level → isNamed text s level name v ≡ sameName name (nameOf text s v)
-    named e = simp (eq-eqb _ _ e)
-
-    pub compared : {l : Label} → l ≡ labelOf v → level ≡ l .level → {x : List ℕ} {r : Bool} → x ≡ nameOf text s v → r ≡ sameName name x → r ≡ isNamed text s level name v
-    compared k e f g = g ∙ ap (sameName name) f ∙ sym (named (e ∙ ap (λ (q : Label). q .level) k))
 
   pub named-same : (w v : ℕ) {l : Label} {name : List ℕ} {r : Bool} → l ≡ labelOf w → name ≡ nameOf text s w → r ≡ isNamed text s (l .level) name v → r ≡ isSame text s w v
   unfolding isSame
@@ -30,11 +21,11 @@ module _ (text s : List ℕ) where
 
   pub other-level : (w v : ℕ) → (labelOf w .level ≡ labelOf v .level → ⊥) → false ≡ isSame text s w v
   unfolding isSame
-  other-level w v d = not-named (labelOf w .level) (nameOf text s w) v refl d
+  other-level w v d = not-named text s (labelOf w .level) (nameOf text s w) v refl d
 
   pub one-level : (w v : ℕ) → labelOf w .level ≡ labelOf v .level → isSame text s w v ≡ sameName (nameOf text s w) (nameOf text s v)
   unfolding isSame
-  one-level w v e = named (labelOf w .level) (nameOf text s w) v e
+  one-level w v e = named text s (labelOf w .level) (nameOf text s w) v e
 
   -- ---- one label among others
 

@@ -1,35 +1,15 @@
 -- Labels are the same where level and name are equal; among merged labels none is the same as another. Assumes nothing.
 use mathlib.Core.Path.{_≡_, refl, ap, sym, _∙_}
-use mathlib.Core.Bool.{Bool, true, false, cond, _&&_}
+use mathlib.Core.Bool.{Bool, true, false, cond}
 use mathlib.Core.List.{List, [], _∷_}
 use Prim.Native.Nat.{ℕ, zero, suc, _<_}
 use native.Mathlib.Omega.{arith}
-use lib.Dec.{eqb}
-use borrow.Author.Tests.{eqb-true, eq-eqb}
 use lib.ListN.{length, getD}
-use Rattle.tokens.specs.Tokens.{tokenOf, rawText}
 use Rattle.entries.specs.Entries.{labelOf}
-use Rattle.grammar.specs.Reading.{sameName}
-use Rattle.labels.specs.Labels.{nameOf, isSame, moved, firstSame, placed, merged}
+use Rattle.label_names.specs.Names.{nameOf}
+use Rattle.label_names.proofs.Named.{same-token, named-equal, equal-named}
+use Rattle.labels.specs.Labels.{isSame, moved, firstSame, placed, merged}
 use Rattle.labels.specs.Index.{Apart, Distinct}
-
-both : (a b : Bool) → (a && b) ≡ true → (a ≡ true) × (b ≡ true)
-both true b e = (refl, e)
-both false b e = let z : _≡_ {A = ℕ} 0 1 = cc in absurd (omega arith)
-
--- ---- names
-
-name-equal : (x y : List ℕ) → sameName x y ≡ true → x ≡ y
-name-equal [] [] e = refl
-name-equal [] (b ∷ y) e = let z : _≡_ {A = ℕ} 0 1 = cc in absurd (omega arith)
-name-equal (a ∷ x) [] e = let z : _≡_ {A = ℕ} 0 1 = cc in absurd (omega arith)
-name-equal (a ∷ x) (b ∷ y) e =
-    let h = both (eqb a b) (sameName x y) e in
-    λ i. eqb-true a b (h .0) i ∷ name-equal x y (h .1) i
-
-name-refl : (x : List ℕ) → sameName x x ≡ true
-name-refl [] = refl
-name-refl (a ∷ x) = simp (eq-eqb a a refl, name-refl x)
 
 module _ (text s : List ℕ) where
   -- ---- two labels
@@ -41,12 +21,12 @@ module _ (text s : List ℕ) where
   pub same-equal : (w v : ℕ) → isSame text s w v ≡ true → Equal w v
   unfolding isSame
   same-equal w v e =
-      let h = both (eqb (labelOf w .level) (labelOf v .level)) (sameName (nameOf text s w) (nameOf text s v)) e in
-      record { levels = eqb-true _ _ (h .0); names = name-equal _ _ (h .1) }
+      let h = named-equal text s (labelOf w .level) (nameOf text s w) v e in
+      record { levels = h .0; names = h .1 }
 
   pub equal-same : (w v : ℕ) → Equal w v → isSame text s w v ≡ true
   unfolding isSame
-  equal-same w v e = simp (eq-eqb _ _ (e .levels), e .names, name-refl)
+  equal-same w v e = equal-named text s (labelOf w .level) (nameOf text s w) v (e .levels) (e .names)
 
   turned : {w v : ℕ} → Equal w v → Equal v w
   turned e = record { levels = sym (e .levels); names = sym (e .names) }
@@ -57,7 +37,7 @@ module _ (text s : List ℕ) where
   pub moved-equal : (w v : ℕ) → Equal (moved w v) v
   moved-equal w v =
       let t : labelOf (moved w v) .token ≡ labelOf v .token = omega arith in
-      record { levels = omega arith; names = ap (λ (k : ℕ). rawText text (tokenOf (getD s k 0))) t }
+      record { levels = omega arith; names = same-token text s (moved w v) v t }
 
   pub not-both : {b : Bool} → b ≡ true → b ≡ false → ⊥
   not-both e f = let z : _≡_ {A = ℕ} 0 1 = cc in omega arith

@@ -7,7 +7,8 @@ use mathlib.Core.List.{List, [], _∷_, map}
 use Prim.Native.Nat.{ℕ, suc, _+_, _*_, _/_, _%_, _≤_, _<_}
 use lib.ListN.{length, take, getD, set}
 use Rattle.entries.specs.Entries.{labelOf}
-use Rattle.labels.specs.Labels.{nameOf, isSame, firstSame}
+use Rattle.label_names.specs.Names.{nameOf}
+use Rattle.labels.specs.Labels.{isSame, firstSame}
 use Rattle.labels.specs.declared.Found.{Found}
 
 -- bytes as the digits of a number to the base of the seed, modulo 2^32

@@ -1,21 +1,11 @@
 -- Labels brought together.
 use mathlib.Core.Path.{_≡_}
-use mathlib.Core.Bool.{Bool, cond, _&&_}
+use mathlib.Core.Bool.{Bool, cond}
 use mathlib.Core.List.{List, [], _∷_, _++_}
 use Prim.Native.Nat.{ℕ, suc}
-use lib.Dec.{eqb}
-use lib.ListN.{length, take, drop, getD}
-use Rattle.tokens.specs.Tokens.{tokenOf, rawText}
+use lib.ListN.{length, take, drop}
 use Rattle.entries.specs.Entries.{labelWord, labelOf}
-use Rattle.grammar.specs.Reading.{sameName}
-
--- the raw text of the token that a label's word names
-abbrev pub nameOf : List ℕ → List ℕ → ℕ → List ℕ
-nameOf text s w = rawText text (tokenOf (getD s (labelOf w .token) 0))
-
--- whether the label v is of that level and name
-abbrev pub isNamed : List ℕ → List ℕ → ℕ → List ℕ → ℕ → Bool
-isNamed text s level name v = eqb level (labelOf v .level) && sameName name (nameOf text s v)
+use Rattle.label_names.specs.Names.{nameOf, isNamed}
 
 -- one level and one name
 unfoldable pub isSame : List ℕ → List ℕ → ℕ → ℕ → Bool

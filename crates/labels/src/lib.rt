@@ -3,14 +3,13 @@
 use entries::Label;
 use entries::label_of;
 use entries::label_word;
-use entries::token_in;
-use tokens::raw_text;
+use label_names::is_named;
+use label_names::name_of;
 ghost use mathlib.Core.Path.{_≡_};
 ghost use Prim.Native.Nat.{_-_, _≤_, _<_};
 ghost use mathlib.Core.List.{[]};
 ghost use lib.ListN.{length, take};
-ghost use Rattle.grammar.specs.Reading.{sameName};
-ghost use Rattle.labels.specs.Labels.{nameOf, isNamed, moved, Placed, Merged};
+ghost use Rattle.labels.specs.Labels.{moved, Placed, Merged};
 ghost use Rattle.labels.specs.Index.{hashOf, bucketIn, linked, Chains, ChainsOf, Indexed, Finds};
 
 // Where a label stands, its bucket, and how many steps the walk took.
@@ -25,41 +24,6 @@ struct Merging {
     labels: usize,
     seed: u32,
     left: usize,
-}
-
-// Names compare byte for byte.
-pub fn same_bytes(a: &[u8], b: &[u8]) -> bool
-    ensures { λ r. ⌜ r ≡ sameName (now (a .entry)) (now (b .entry)) ⌝ }
-{
-    if a.len() != b.len() {
-        return false;
-    }
-    let mut i = 0;
-    while i < a.len() {
-        if a[i] != b[i] {
-            return false;
-        }
-        i += 1;
-    }
-    true
-}
-
-// The name of the label w.
-fn name_of<'a>(text: &'a [u8], s: &[u64], w: u64) -> &'a [u8]
-    ensures { λ r. ⌜ now r ≡ nameOf (now (text .entry)) (now (s .entry)) w ⌝ }
-{
-    let t = token_in(s, label_of(w).token);
-    raw_text(text, t)
-}
-
-// Whether the label v is of that level and name.
-fn is_named(text: &[u8], s: &[u64], level: usize, name: &[u8], v: u64) -> bool
-    ensures { λ r. ⌜ r ≡ isNamed (now (text .entry)) (now (s .entry)) level (now (name .entry)) v ⌝ }
-{
-    if level != label_of(v).level {
-        return false;
-    }
-    same_bytes(name, name_of(text, s, v))
 }
 
 // The hash of a level and a name. The multiplication at the end spreads names that differ in the last byte only.

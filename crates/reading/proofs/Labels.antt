@@ -16,7 +16,8 @@ use Rattle.entries.specs.declared.Label as D
 use Rattle.entries.specs.Entries.{labelWord, labelOf}
 use Rattle.entries.specs.Levels.{Small}
 use Rattle.entries.proofs.Words.{label-back}
-use Rattle.labels.specs.Labels.{nameOf, isSame, moved, placed, merged}
+use Rattle.label_names.specs.Names.{nameOf}
+use Rattle.labels.specs.Labels.{isSame, moved, placed, merged}
 use Rattle.labels.proofs.Placing.{one-level, other-level, merged-append}
 use Rattle.reading.specs.Trees.{AllOf, AllIn}
 use Rattle.reading.specs.Tables.{labelEntry, labelEntryWord}

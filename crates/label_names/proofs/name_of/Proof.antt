@@ -1,11 +1,11 @@
--- `labels::name_of` meets its contract. Assumes nothing.
+-- `label_names::name_of` meets its contract. Assumes nothing.
 use borrow.Author.Needs.{needs}
 use mathlib.Core.Path.{ap, _∙_}
 use lib.ListN.{getD}
 use Rattle.tokens.specs.Tokens.{tokenOf, rawText}
 use Rattle.entries.specs.declared.Label.{Label}
-use Rattle.labels.proofs.name_of.Statement.{statement}
-use Rattle.labels.proofs.name_of.Tie as tie
+use Rattle.label_names.proofs.name_of.Statement.{statement}
+use Rattle.label_names.proofs.name_of.Tie as tie
 
 returns : tie.Need-returns
 returns c = c .raw-text .ensures ∙ ap (rawText (c .before .before .before .before .before .args .text .now)) (c .before .token-in .ensures ∙ ap (λ (l : Label). tokenOf (getD (c .before .before .before .before .before .args .s .now) (l .token) 0)) (c .before .before .label-of .ensures))

@@ -1,8 +1,8 @@
--- `held::check_1024` meets its contract. Assumes nothing.
+-- `checking::check_1024` meets its contract. Assumes nothing.
 use borrow.Author.Needs.{needs}
-use Rattle.held.proofs.Hand.{checked}
-use Rattle.held.proofs.check_1024.Statement.{statement}
-use Rattle.held.proofs.check_1024.Tie as tie
+use Rattle.checking.proofs.Checked.{checked}
+use Rattle.checking.proofs.check_1024.Statement.{statement}
+use Rattle.checking.proofs.check_1024.Tie as tie
 
 returns : tie.Need-returns
 returns c = checked (c .before .before .before .before .before .read-held .ensures)

@@ -1,8 +1,8 @@
--- `labels::is_named` meets its contract. Assumes nothing.
+-- `label_names::is_named` meets its contract. Assumes nothing.
 use borrow.Author.Needs.{needs}
-use Rattle.labels.proofs.Placing as laws
-use Rattle.labels.proofs.is_named.Statement.{statement}
-use Rattle.labels.proofs.is_named.Tie as tie
+use Rattle.label_names.proofs.Named as laws
+use Rattle.label_names.proofs.is_named.Statement.{statement}
+use Rattle.label_names.proofs.is_named.Tie as tie
 
 apart : tie.Need-returns
 apart c =

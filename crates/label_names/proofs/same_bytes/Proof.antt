@@ -1,13 +1,13 @@
--- `labels::same_bytes` meets its contract. The invariant: what is left to compare decides. Assumes nothing.
+-- `label_names::same_bytes` meets its contract. The invariant: what is left to compare decides. Assumes nothing.
 use borrow.Author.Needs.{needs}
 use native.Mathlib.Omega.{arith}
 use mathlib.Core.Path.{_≡_, refl}
 use Prim.Native.Nat.{_≤_, _-_}
 use lib.ListN.{length}
 use Rattle.grammar.specs.Reading.{sameName}
-use Rattle.labels.proofs.Bytes as laws
-use Rattle.labels.proofs.same_bytes.Statement.{statement}
-use Rattle.labels.proofs.same_bytes.Tie as tie
+use Rattle.label_names.proofs.Bytes as laws
+use Rattle.label_names.proofs.same_bytes.Statement.{statement}
+use Rattle.label_names.proofs.same_bytes.Tie as tie
 
 abbrev Inv-loop : tie.InvT-loop
 Inv-loop a b i₀ i = (i ≤ length a) × ((length a ≡ length b) × (sameName a b ≡ laws.sameFrom a b i))
