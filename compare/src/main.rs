@@ -33,6 +33,7 @@ mod values;
 use std::collections::BTreeMap;
 
 use oracle::dump;
+use texts::hex;
 
 const BATCH: usize = 20_000;
 const UNTOUCHED: u64 = 0xdead_beef_dead_beef;
@@ -42,13 +43,6 @@ const UNTOUCHED: u64 = 0xdead_beef_dead_beef;
 enum Lexed {
     Refused(u64, u64),
     Tokens(Vec<String>),
-}
-
-fn hex(bytes: &[u8]) -> String {
-    if bytes.is_empty() {
-        return "-".into();
-    }
-    bytes.iter().map(|b| format!("{b:02x}")).collect()
 }
 
 fn line(text: &[u8], word: u64) -> String {

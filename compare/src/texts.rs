@@ -6,6 +6,14 @@ use std::sync::OnceLock;
 /// The alphabets of `exhaustive`, with the length that `all` goes to.
 pub const ALPHABETS: [(&str, usize); 5] = [("numbers", 6), ("strings", 6), ("words", 5), ("newlines", 6), ("utf8", 5)];
 
+/// Bytes as the oracle prints them.
+pub fn hex(bytes: &[u8]) -> String {
+    if bytes.is_empty() {
+        return "-".into();
+    }
+    bytes.iter().map(|b| format!("{b:02x}")).collect()
+}
+
 fn alphabet(name: &str) -> Vec<&'static [u8]> {
     let pieces: &[&[u8]] = match name {
         "numbers" => &[b"1", b"0", b"9", b".", b"-", b"+", b"e", b"E", b" ", b"\n"],
@@ -274,7 +282,7 @@ pub fn entry(text: &[u8], line: &str) -> [u64; 5] {
     let (start, end): (usize, usize) = (parts[1].parse().unwrap(), parts[2].parse().unwrap());
     let inner = (kind == 65536) as usize;
     let raw = &text[start + inner..end - inner];
-    assert_eq!(parts[3], crate::hex(raw), "the raw text is a part of the text");
+    assert_eq!(parts[3], hex(raw), "the raw text is a part of the text");
     [kind, start as u64, end as u64, (start + inner) as u64, (end - inner) as u64]
 }
 

@@ -12,11 +12,11 @@ use lib.ListN.{length, getD}
 use lib.Signed.{_≤ℤ_}
 use borrow.Author.Tests.{leb-true, leb-false, eqb-true, eqb-false}
 use Rattle.tokens.specs.declared.Token.{Token}
-use Rattle.lexemes.specs.Lexemes.{Lexeme, raw, numbered}
+use Rattle.lexemes.specs.Lexemes.{Lexeme, raw, numbered, sameName}
 use Rattle.lexemes.proofs.Tests.{either}
 use Rattle.grammar.specs.Grammar.{Items, done, label, action, Blocks, no-blocks, block}
 use Rattle.grammar.specs.Reading as R
-use Rattle.grammar.specs.Reading.{Opened, Acted, ownActions, allActions, actionsInside, openedOf, openedIn, operandsFrom, sameName, place, ownLabels, labelsFrom}
+use Rattle.grammar.specs.Reading.{Opened, Acted, ownActions, allActions, actionsInside, openedOf, openedIn, operandsFrom, place, ownLabels, labelsFrom}
 use Rattle.grammar.specs.Nets.{Net, height, undetermined, moved, netFrom, nameIsEmpty}
 use Rattle.pcode.specs.Deltas.{deltaOf}
 use Rattle.entries.specs.declared.Action as E

@@ -5,10 +5,10 @@ use mathlib.Core.List.{List, [], _∷_, map, List·Memᴰ, List·Memᴰ·head, L
 use Prim.Native.Nat.{ℕ, suc, _+_, _≤_, _<_}
 use native.Mathlib.Omega.{arith}
 use lib.ListN.{length, getD}
-use Rattle.lexemes.specs.Lexemes.{Lexeme, raw}
+use Rattle.lexemes.specs.Lexemes.{Lexeme, raw, sameName}
 use Rattle.lexemes.proofs.Tests.{either}
 use Rattle.grammar.specs.Grammar.{Items, done, label, action}
-use Rattle.grammar.specs.Reading.{Reading, Level, Label, Opened, Reads, readingOf, opened, ownActions, sameName, place, ownLabels, labelsFrom}
+use Rattle.grammar.specs.Reading.{Reading, Level, Label, Opened, Reads, readingOf, opened, ownActions, place, ownLabels, labelsFrom}
 
 pub record InRange (R : Reading) (l : Label) : Type 0 where
   pub inside : l .level < length (R .levels)

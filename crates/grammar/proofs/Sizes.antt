@@ -5,11 +5,11 @@ use Prim.Native.Nat.{ℕ, zero, suc, _+_, _*_, _-_, _≤_}
 use native.Mathlib.Nat.{add-suc, add-zero, suc-add, zero-add}
 use native.Mathlib.Omega.{arith}
 use lib.ListN.{length, length-append, length-map}
-use Rattle.lexemes.specs.Lexemes.{Lexeme, raw}
+use Rattle.lexemes.specs.Lexemes.{Lexeme, raw, sameName}
 use Rattle.lexemes.specs.Operands.{Class}
 use Rattle.lexemes.proofs.Tests.{either}
 use Rattle.grammar.specs.Grammar.{Items, done, label, action, Blocks, no-blocks, block, Body, Operands, no-operand, last, comma, Newlines, no-newline, newline, Ended, text-ends, line-ends, Level, level, Written, ends, names, acts, Block, braces, Bodies, no-body, one-body, try-body, Catch, no-catch, catches, Finally, no-finally, finishes, Text}
-use Rattle.grammar.specs.Reading.{Reading, Label, Opened, Acted, Reads, readingOf, openedOf, openedIn, actedOf, actedIn, allActions, actionsInside, operandsFrom, sameName, place, ownLabels, labelsFrom}
+use Rattle.grammar.specs.Reading.{Reading, Label, Opened, Acted, Reads, readingOf, openedOf, openedIn, actedOf, actedIn, allActions, actionsInside, operandsFrom, place, ownLabels, labelsFrom}
 use Rattle.grammar.specs.Refusals.{Short}
 use Rattle.grammar.specs.Trees.{size, sizes}
 

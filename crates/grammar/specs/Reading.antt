@@ -1,13 +1,12 @@
 -- A reading: document 01, 'The call' and 'Grammar', as tables of a tree.
 use mathlib.Core.Path.{_≡_}
-use mathlib.Core.Bool.{Bool, true, false, cond, _&&_}
+use mathlib.Core.Bool.{cond}
 use mathlib.Core.List.{List, [], _∷_, _++_, map}
 use mathlib.Core.Option.{Option, none, some}
 use Prim.Native.Nat.{ℕ, suc, _+_}
-use lib.Dec.{eqb}
 use lib.ListN.{length}
 use Rattle.names.specs.declared.ActionName.{ActionName}
-use Rattle.lexemes.specs.Lexemes.{Lexeme, raw}
+use Rattle.lexemes.specs.Lexemes.{Lexeme, raw, sameName}
 use Rattle.lexemes.specs.Events.{Part}
 use Rattle.grammar.specs.Grammar.{Items, done, label, action, Blocks, no-blocks, block, Text}
 
@@ -111,13 +110,6 @@ operandsFrom a [] = []
 operandsFrom a (l ∷ ls) = map (λ (t : Lexeme). record { action = a; token = t }) (l .operands) ++ operandsFrom (suc a) ls
 
 -- ---- labels, by level and then in their order
-
--- names compare byte for byte
-abbrev pub sameName : List ℕ → List ℕ → Bool
-sameName [] [] = true
-sameName [] (b ∷ v) = false
-sameName (a ∷ w) [] = false
-sameName (a ∷ w) (b ∷ v) = eqb a b && sameName w v
 
 -- written again, a label keeps its first place in the order and takes the new position
 abbrev pub place : Label → List Label → List Label

@@ -9,7 +9,7 @@ use borrow.Author.Tests.{eq-eqb, lt-ltb, le-ltb}
 use Rattle.tokens.specs.declared.Token.{Token}
 use Rattle.tokens.specs.Tokens.{tokenOf, rawText}
 use Rattle.entries.specs.declared.Label.{Label}
-use Rattle.grammar.specs.Reading.{sameName}
+use Rattle.lexemes.specs.Lexemes.{sameName}
 use Rattle.label_entries.specs.declared.FoundLabel.the-variants.{At, Nothing}
 use Rattle.label_entries.specs.Labels.{noLabel, isNamed, foundFrom, foundAt}
 

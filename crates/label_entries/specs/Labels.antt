@@ -7,7 +7,7 @@ use lib.ListN.{getD}
 use Rattle.tokens.specs.Tokens.{tokenOf, rawText}
 use Rattle.entries.specs.declared.Label.{Label}
 use Rattle.entries.specs.Entries.{labelOf}
-use Rattle.grammar.specs.Reading.{sameName}
+use Rattle.lexemes.specs.Lexemes.{sameName}
 use Rattle.label_entries.specs.declared.FoundLabel.{FoundLabel}
 use Rattle.label_entries.specs.declared.FoundLabel.the-variants.{At, Nothing}
 

@@ -8,7 +8,7 @@ use lib.Dec.{eqb}
 use borrow.Author.Tests.{ne-eqb, eq-eqb}
 use lib.ListN.{length, drop, getD, drop-of-length-le}
 use lib.Seq.{drop-cons}
-use Rattle.grammar.specs.Reading.{sameName}
+use Rattle.lexemes.specs.Lexemes.{sameName}
 
 pub same-differ : (w n : List ℕ) → (length w ≡ length n → ⊥) → false ≡ sameName w n
 same-differ [] [] h = absurd (h refl)

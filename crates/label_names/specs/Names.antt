@@ -6,7 +6,7 @@ use lib.Dec.{eqb}
 use lib.ListN.{getD}
 use Rattle.tokens.specs.Tokens.{tokenOf, rawText}
 use Rattle.entries.specs.Entries.{labelOf}
-use Rattle.grammar.specs.Reading.{sameName}
+use Rattle.lexemes.specs.Lexemes.{sameName}
 
 -- the raw text of the token that a label's word names
 abbrev pub nameOf : List ℕ → List ℕ → ℕ → List ℕ

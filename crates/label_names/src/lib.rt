@@ -3,7 +3,7 @@ use entries::label_of;
 use entries::token_in;
 use tokens::raw_text;
 ghost use mathlib.Core.Path.{_≡_};
-ghost use Rattle.grammar.specs.Reading.{sameName};
+ghost use Rattle.lexemes.specs.Lexemes.{sameName};
 ghost use Rattle.label_names.specs.Names.{nameOf, isNamed};
 
 // Names compare byte for byte.

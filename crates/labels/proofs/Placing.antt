@@ -7,7 +7,7 @@ use native.Mathlib.Omega.{arith}
 use lib.ListN.{length, getD, set}
 use Rattle.entries.specs.declared.Label.{Label}
 use Rattle.entries.specs.Entries.{labelOf}
-use Rattle.grammar.specs.Reading.{sameName}
+use Rattle.lexemes.specs.Lexemes.{sameName}
 use Rattle.label_names.specs.Names.{nameOf, isNamed}
 use Rattle.label_names.proofs.Named.{not-named, named}
 use Rattle.labels.specs.Labels.{isSame, moved, firstSame, placed, merged}

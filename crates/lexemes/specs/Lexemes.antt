@@ -1,7 +1,8 @@
 -- The tokens of a list, as the grammar sees them.
-use mathlib.Core.Bool.{Bool, cond}
+use mathlib.Core.Bool.{Bool, true, false, cond, _&&_}
 use mathlib.Core.List.{List, [], _∷_}
 use Prim.Native.Nat.{ℕ, suc}
+use lib.Dec.{eqb}
 use Rattle.tokens.specs.declared.TokenKind.{TokenKind}
 use Rattle.tokens.specs.declared.Token.{Token}
 use Rattle.tokens.specs.Kinds.{isKind}
@@ -16,6 +17,13 @@ placeOf (lexeme i k w) = i
 
 abbrev pub raw : Lexeme → List ℕ
 raw (lexeme i k w) = w
+
+-- names compare byte for byte
+abbrev pub sameName : List ℕ → List ℕ → Bool
+sameName [] [] = true
+sameName [] (b ∷ v) = false
+sameName (a ∷ w) [] = false
+sameName (a ∷ w) (b ∷ v) = eqb a b && sameName w v
 
 -- the tokens of a text, numbered from i on
 abbrev pub numbered : ℕ → List ℕ → List Token → List Lexeme

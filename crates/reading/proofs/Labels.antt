@@ -6,11 +6,11 @@ use Prim.Native.Nat.{ℕ, suc, _+_, _≤_, _<_}
 use native.Mathlib.Omega.{arith}
 use lib.ListN.{length, getD}
 use Rattle.tokens.specs.Tokens.{tokenOf, rawText}
-use Rattle.lexemes.specs.Lexemes.{Lexeme, raw, placeOf}
+use Rattle.lexemes.specs.Lexemes.{Lexeme, raw, placeOf, sameName}
 use Rattle.lexemes.proofs.Tests.{either}
 use Rattle.grammar.specs.Grammar.{Items, done, label, action, Blocks, no-blocks, block}
 use Rattle.grammar.specs.Reading as R
-use Rattle.grammar.specs.Reading.{Opened, ownActions, allActions, actionsInside, openedOf, openedIn, opened, sameName, place, ownLabels, labelsFrom}
+use Rattle.grammar.specs.Reading.{Opened, ownActions, allActions, actionsInside, openedOf, openedIn, opened, place, ownLabels, labelsFrom}
 use Rattle.classes.specs.Lexemes.{lexemeOf}
 use Rattle.entries.specs.declared.Label as D
 use Rattle.entries.specs.Entries.{labelWord, labelOf}

@@ -4,7 +4,7 @@ use native.Mathlib.Omega.{arith}
 use mathlib.Core.Path.{_≡_, refl}
 use Prim.Native.Nat.{_≤_, _-_}
 use lib.ListN.{length}
-use Rattle.grammar.specs.Reading.{sameName}
+use Rattle.lexemes.specs.Lexemes.{sameName}
 use Rattle.label_names.proofs.Bytes as laws
 use Rattle.label_names.proofs.same_bytes.Statement.{statement}
 use Rattle.label_names.proofs.same_bytes.Tie as tie
