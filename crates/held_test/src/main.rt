@@ -9,7 +9,6 @@ use entries::Net;
 use entries::level_in;
 use held::hand_held;
 use held::read_held;
-use held::token_count;
 use printing::print_number;
 use printing::print_refusal;
 use printing::print_text;
@@ -75,55 +74,9 @@ fn finish(
     }
 }
 
-// ---- held tables by the length of the text
-
-fn determined_4096(
-    text: &[u8],
-    tokens: &mut [u64],
-    actions: &mut [u64],
-    operands: &mut [u64],
-    levels: &mut [u64],
-    labels: &mut [u64],
-) -> Reading
-    requires { ⌜ length (now text) ≤ 4096 ⌝ }
-    ensures { λ r. ⌜ ReadsDetermined (now (text .entry)) (lent (now (tokens .entry)) (now (actions .entry)) (now (operands .entry)) (now (levels .entry)) (now (labels .entry))) (lent (now (tokens .exit)) (now (actions .exit)) (now (operands .exit)) (now (levels .exit)) (now (labels .exit))) r ⌝ }
-{
-    let mut held_tokens = [0u64; 4096];
-    let mut held_actions = [0u64; 2049];
-    let mut held_operands = [0u64; 2049];
-    let mut held_levels = [0u64; 2049];
-    let mut held_labels = [0u64; 2049];
-    let reading = read_held(
-        text,
-        tokens.len(),
-        actions.len(),
-        operands.len(),
-        levels.len(),
-        labels.len(),
-        &mut held_tokens,
-        &mut held_actions,
-        &mut held_operands,
-        &mut held_levels,
-        &mut held_labels,
-    );
-    finish(
-        text,
-        reading,
-        &held_tokens,
-        &held_actions,
-        &held_operands,
-        &held_levels,
-        &held_labels,
-        tokens,
-        actions,
-        operands,
-        levels,
-        labels,
-    )
-}
-
-// It calls itself, where no text leads, so that it has a frame of its own: a small text does not pay for it.
-fn determined_65536(
+// Reads a text into the lent tables, or refuses it by rows 1 to 8, or by 9. The held tables are for any text; a call of the library
+// has them by the length of the text, as `checking` does.
+fn read_determined(
     text: &[u8],
     tokens: &mut [u64],
     actions: &mut [u64],
@@ -151,9 +104,6 @@ fn determined_65536(
         &mut held_levels,
         &mut held_labels,
     );
-    if text.len() < token_count(reading) {
-        return determined_65536(text, tokens, actions, operands, levels, labels);
-    }
     finish(
         text,
         reading,
@@ -168,23 +118,6 @@ fn determined_65536(
         levels,
         labels,
     )
-}
-
-// Reads a text into the lent tables, or refuses it by rows 1 to 8, or by 9.
-fn read_determined(
-    text: &[u8],
-    tokens: &mut [u64],
-    actions: &mut [u64],
-    operands: &mut [u64],
-    levels: &mut [u64],
-    labels: &mut [u64],
-) -> Reading
-    ensures { λ r. ⌜ ReadsDetermined (now (text .entry)) (lent (now (tokens .entry)) (now (actions .entry)) (now (operands .entry)) (now (levels .entry)) (now (labels .entry))) (lent (now (tokens .exit)) (now (actions .exit)) (now (operands .exit)) (now (levels .exit)) (now (labels .exit))) r ⌝ }
-{
-    if text.len() <= 4096 {
-        return determined_4096(text, tokens, actions, operands, levels, labels);
-    }
-    determined_65536(text, tokens, actions, operands, levels, labels)
 }
 
 // ---- the texts
