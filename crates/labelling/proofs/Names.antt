@@ -4,20 +4,14 @@ use mathlib.Core.List.{List, [], _∷_, _++_}
 use Prim.Native.Nat.{ℕ, suc, _+_, _≤_, _<_}
 use native.Mathlib.Numerals.{add-one}
 use native.Mathlib.Omega.{arith}
-use lib.IntN.{pos}
 use lib.ListN.{length, getD, set, length-append, length-set}
 use lib.Seq.{sets, getD-set-same, getD-set-other}
 use Rattle.actions.specs.Numbers.{numberOf}
 use Rattle.actions.proofs.Numbers.{number-below}
 use Rattle.events.specs.Log.{Holdable, logWord, byKind}
 use Rattle.events.proofs.Words.{event-is}
-use Rattle.entries.specs.declared.Block.{Block}
-use Rattle.entries.specs.declared.Block.the-variants as B
-use Rattle.entries.specs.declared.Net.the-variants as Net
-use Rattle.entries.specs.declared.Level.{Level}
-use Rattle.entries.specs.Entries.{blockNumber, levelWord, ownerOf}
-use Rattle.entries.specs.Levels.{withAction, levelAt, Small}
-use Rattle.entries.proofs.Levels.{read-back}
+use Rattle.entries.specs.Entries.{labelWord, labelOf}
+use Rattle.entries.proofs.Words.{label-back}
 use Rattle.lexemes.specs.Lexemes.{Lexeme, placeOf}
 use Rattle.lexemes.specs.Events.{Part, Event}
 use Rattle.lexemes.specs.Events as E
@@ -27,15 +21,14 @@ use Rattle.grammar.specs.Trees.{leading, waiting, events, block-events, givens}
 use Rattle.operands.specs.Log.{partNumber, eventWord}
 use Rattle.reading.specs.Trees.{All, AllOf, AllIn, IsLow, labelWith, namedOf, namedIn}
 use Rattle.reading.proofs.Trees.{opened-count, opened-counts, part-below, low-leading, low-waiting}
-use Rattle.reading.proofs.Groups.{own-few}
 use Rattle.reading.proofs.Sets.{joined}
 use Rattle.reading.proofs.Gathered.{words}
 use Rattle.labelling.specs.declared.Namer.{Namer}
 use Rattle.labelling.specs.Naming.{Naming, naming, acted, name, opened, closed, by, step, steps, start}
 
--- in level ℓ, with m levels and n labels
-abbrev standing : ℕ → ℕ → ℕ → Namer
-standing ℓ m n = record { level = ℓ; levels = m; labels = n }
+-- in level ℓ behind p of its actions, with m levels and n labels
+abbrev standing : ℕ → ℕ → ℕ → ℕ → Namer
+standing ℓ m n p = record { level = ℓ; levels = m; labels = n; actions = p }
 
 abbrev run : List Event → Naming → Naming
 run k T = steps (words k) T
@@ -48,185 +41,130 @@ gave : (os : List Lexeme) (k : List Event) (T : Naming) → All IsLow os → run
 gave [] k T h = refl
 gave (t ∷ os) k T h = ap (run (givens os k)) (decoded 2 (placeOf t) T (h .0)) ∙ gave os k T (h .1)
 
--- a level that is the block b, with p actions
-abbrev so-far : Block → ℕ → Level
-so-far b p = record { block = b; actions = p; net = Net.Height (pos 0) }
+-- the place in level ℓ behind p of its actions, as its word
+abbrev placed : ℕ → ℕ → ℕ
+placed ℓ p = labelWord (record { level = ℓ; token = 0; position = p })
 
-module _ (W N : List ℕ) (ℓ m n : ℕ) (b : Block) (p : ℕ) (e : getD W ℓ 0 ≡ levelWord (so-far b p)) (g : Small (blockNumber b)) (k : p ≤ 65536) where
-  is : levelAt W ℓ ≡ so-far b p
-  is = read-back W ℓ (so-far b p) e g (omega arith) (omega arith)
-
-  acted-step : (v : ℕ) → Holdable v → step (logWord 0 v) (naming W N (standing ℓ m n)) ≡ naming (set W ℓ (levelWord (so-far b (suc p)))) N (standing ℓ m n)
+module _ (W N : List ℕ) (ℓ m n p : ℕ) where
+  acted-step : (v : ℕ) → Holdable v → step (logWord 0 v) (naming W N (standing ℓ m n p)) ≡ naming W N (standing ℓ m n (suc p))
   unfolding naming acted
-  acted-step v h =
-      decoded 0 v (naming W N (standing ℓ m n)) h
-      ∙ (λ j. record { own = set W ℓ (levelWord (withAction (Net.Height (pos 0)) (is j))); named = N; at = standing ℓ m n })
-      ∙ (λ j. record { own = set W ℓ (levelWord (so-far b (add-one p j))); named = N; at = standing ℓ m n })
+  acted-step v h = decoded 0 v (naming W N (standing ℓ m n p)) h ∙ (λ j. record { own = W; named = N; at = standing ℓ m n (add-one p j) })
 
-  named-step : (t : ℕ) → Holdable t → step (logWord 1 t) (naming W N (standing ℓ m n)) ≡ naming W (set N n (labelWith ℓ t p)) (standing ℓ m (suc n))
+  named-step : (t : ℕ) → Holdable t → step (logWord 1 t) (naming W N (standing ℓ m n p)) ≡ naming W (set N n (labelWith ℓ t p)) (standing ℓ m (suc n) p)
   unfolding naming name
-  named-step t h =
-      decoded 1 t (naming W N (standing ℓ m n)) h
-      ∙ (λ j. record { own = W; named = set N n (labelWith ℓ t (is j .actions)); at = standing ℓ m (add-one n j) })
+  named-step t h = decoded 1 t (naming W N (standing ℓ m n p)) h ∙ (λ j. record { own = W; named = set N n (labelWith ℓ t p); at = standing ℓ m (add-one n j) p })
 
-  closed-step : (o : ℕ) → ownerOf b ≡ o → step (eventWord E.closed) (naming W N (standing ℓ m n)) ≡ naming W N (standing o m n)
+  opened-step : (q : Part) → step (eventWord (E.opened q)) (naming W N (standing ℓ m n p)) ≡ naming (set W m (placed ℓ p)) N (standing m (suc m) n 0)
+  unfolding naming opened
+  opened-step q =
+      decoded 3 (partNumber q) (naming W N (standing ℓ m n p)) (omega (arith, part-below q))
+      ∙ (λ j. record { own = set W m (placed ℓ p); named = N; at = standing m (add-one m j) n 0 })
+
+  -- back to where the level opened
+  closed-step : (o a : ℕ) → getD W ℓ 0 ≡ placed o a → a ≤ 65536 → step (eventWord E.closed) (naming W N (standing ℓ m n p)) ≡ naming W N (standing o m n a)
   unfolding naming closed
-  closed-step o f =
-      let z = ap (λ (v : Level). ownerOf (v .block)) is ∙ f in
-      decoded 4 0 (naming W N (standing ℓ m n)) (omega arith) ∙ (λ j. record { own = W; named = N; at = standing (z j) m n })
+  closed-step o a e h =
+      let z = ap labelOf e ∙ label-back (record { level = o; token = 0; position = a }) (omega arith) (omega arith) in
+      decoded 4 0 (naming W N (standing ℓ m n p)) (omega arith) ∙ (λ j. record { own = W; named = N; at = standing (z j .level) m n (z j .position) })
 
-opened-step : (W N : List ℕ) (ℓ m n : ℕ) (p : Part)
-    → step (eventWord (E.opened p)) (naming W N (standing ℓ m n)) ≡ naming (set W m (levelWord (so-far (B.Body ℓ) 0))) N (standing m (suc m) n)
-unfolding naming opened
-opened-step W N ℓ m n p =
-    decoded 3 (partNumber p) (naming W N (standing ℓ m n)) (omega (arith, part-below p))
-    ∙ (λ j. record { own = set W m (levelWord (so-far (B.Body ℓ) 0)); named = N; at = standing m (add-one m j) n })
+-- ---- behind a tree's events: what the words of its own levels are is not told
 
--- ---- behind a tree's events: what its levels' words are is not told, but for that of level ℓ
-
-record Behind (x : Items) (k : List Event) (W N : List ℕ) (ℓ m n : ℕ) (b : Block) (p : ℕ) : Type 0 where
+record Behind (x : Items) (k : List Event) (W N : List ℕ) (ℓ m n p : ℕ) : Type 0 where
   own : List ℕ
-  told : run (events x k) (naming W N (standing ℓ m n))
-      ≡ run k (naming own (sets N n (namedOf ℓ m p x)) (standing ℓ (m + length (openedOf 0 x)) (n + length (namedOf ℓ m p x))))
-  keeps : (j : ℕ) → j < m → (j ≡ ℓ → ⊥) → getD own j 0 ≡ getD W j 0
-  here : getD own ℓ 0 ≡ levelWord (so-far b (p + ownActions x))
-  long : length own ≡ length W
-
-record BehindIn (bs : Blocks) (os : List Lexeme) (k : List Event) (W N : List ℕ) (ℓ m n : ℕ) : Type 0 where
-  own : List ℕ
-  told : run (block-events bs os k) (naming W N (standing ℓ m n))
-      ≡ run k (naming own (sets N n (namedIn m bs)) (standing ℓ (m + length (openedIn 0 0 bs)) (n + length (namedIn m bs))))
+  told : run (events x k) (naming W N (standing ℓ m n p))
+      ≡ run k (naming own (sets N n (namedOf ℓ m p x)) (standing ℓ (m + length (openedOf 0 x)) (n + length (namedOf ℓ m p x)) (p + ownActions x)))
   keeps : (j : ℕ) → j < m → getD own j 0 ≡ getD W j 0
   long : length own ≡ length W
 
--- where the events start, and room
-record At (W : List ℕ) (ℓ m : ℕ) (b : Block) (p : ℕ) (x : Items) : Type 0 where
-  inside : ℓ < m
-  here : getD W ℓ 0 ≡ levelWord (so-far b p)
-  small : Small (blockNumber b)
-  room : m + length (openedOf 0 x) ≤ length W
-  few : m + length (openedOf 0 x) ≤ 65537
-  count : p + allActions x ≤ 65536
+record BehindIn (bs : Blocks) (os : List Lexeme) (k : List Event) (W N : List ℕ) (ℓ m n p : ℕ) : Type 0 where
+  own : List ℕ
+  told : run (block-events bs os k) (naming W N (standing ℓ m n p))
+      ≡ run k (naming own (sets N n (namedIn m bs)) (standing ℓ (m + length (openedIn 0 0 bs)) (n + length (namedIn m bs)) p))
+  keeps : (j : ℕ) → j < m → getD own j 0 ≡ getD W j 0
+  long : length own ≡ length W
 
 mutual
-  of-items : (x : Items) (k : List Event) (W N : List ℕ) (ℓ m n : ℕ) (b : Block) (p : ℕ) → At W ℓ m b p x → AllOf IsLow x → Behind x k W N ℓ m n b p
-  of-items done k W N ℓ m n b p at h =
-      let zp : p ≡ p + 0 = omega arith in
+  of-items : (x : Items) (k : List Event) (W N : List ℕ) (ℓ m n p : ℕ) → m + length (openedOf 0 x) ≤ length W → p + allActions x ≤ 65536 → AllOf IsLow x → Behind x k W N ℓ m n p
+  of-items done k W N ℓ m n p ro co h =
       let zm : m ≡ m + 0 = omega arith in
       let zn : n ≡ n + 0 = omega arith in
-      record {
-        own = W;
-        told = ap (run k) (λ j. naming W N (standing ℓ (zm j) (zn j)));
-        keeps = λ j l d. refl;
-        here = at .here ∙ ap (λ q. levelWord (so-far b q)) zp;
-        long = refl;
-      }
-  of-items (label t x) k W N ℓ m n b p at h =
-      let v = labelWith ℓ (placeOf t) p in
-      let r = of-items x k W (set N n v) ℓ m (suc n) b p (record { inside = at .inside; here = at .here; small = at .small; room = at .room; few = at .few; count = at .count }) (h .1) in
+      let zp : p ≡ p + 0 = omega arith in
+      record { own = W; told = ap (run k) (λ j. naming W N (standing ℓ (zm j) (zn j) (zp j))); keeps = λ j l. refl; long = refl }
+  of-items (label t x) k W N ℓ m n p ro co h =
+      let r = of-items x k W (set N n (labelWith ℓ (placeOf t) p)) ℓ m (suc n) p ro co (h .1) in
       let z : suc n + length (namedOf ℓ m p x) ≡ n + suc (length (namedOf ℓ m p x)) = omega arith in
       record {
         own = r .own;
         told =
-            ap (run (events x k)) (named-step W N ℓ m n b p (at .here) (at .small) (omega (arith, at .count)) (placeOf t) (h .0))
+            ap (run (events x k)) (named-step W N ℓ m n p (placeOf t) (h .0))
             ∙ r .told
-            ∙ ap (λ q. run k (naming (r .own) (sets N n (namedOf ℓ m p (label t x))) (standing ℓ (m + length (openedOf 0 x)) q))) z;
+            ∙ ap (λ q. run k (naming (r .own) (sets N n (namedOf ℓ m p (label t x))) (standing ℓ (m + length (openedOf 0 x)) q (p + ownActions x)))) z;
         keeps = r .keeps;
-        here = r .here;
         long = r .long;
       }
-  of-items (action a os bs x) k W N ℓ m n b p at h =
-      let w₁ = levelWord (so-far b (suc p)) in
-      let W₁ = set W ℓ w₁ in
+  of-items (action a os bs x) k W N ℓ m n p ro co h =
       let m₂ = m + length (openedIn 0 0 bs) in
       let n₂ = n + length (namedIn m bs) in
       let ls = length-append (openedIn 0 1 bs) (openedOf (1 + actionsInside bs) x) in
       let e = opened-counts bs 0 0 1 0 in
       let c = opened-count x (1 + actionsInside bs) 0 in
-      let i = of-blocks bs os (events x k) W₁ N ℓ m n (at .inside) (omega (arith, at .few, ls, e)) (omega (arith, at .room, ls, e, length-set W ℓ w₁)) (omega (arith, at .count)) (h .0) (h .1 .0) in
-      let r = of-items x k (i .own) (sets N n (namedIn m bs)) ℓ m₂ n₂ b (suc p)
-      (record {
-        inside = omega (arith, at .inside);
-        here = i .keeps ℓ (at .inside) ∙ getD-set-same W ℓ w₁ 0 (omega (arith, at .inside, at .room));
-        small = at .small;
-        room = omega (arith, at .room, i .long, length-set W ℓ w₁, ls, e, c);
-        few = omega (arith, at .few, ls, e, c);
-        count = omega (arith, at .count);
-      }) (h .1 .1) in
-      let zp : suc p + ownActions x ≡ p + suc (ownActions x) = omega arith in
+      let i = of-blocks bs os (events x k) W N ℓ m n (suc p) (omega (arith, ro, ls, e)) (omega (arith, co)) (h .0) (h .1 .0) in
+      let r = of-items x k (i .own) (sets N n (namedIn m bs)) ℓ m₂ n₂ (suc p) (omega (arith, ro, i .long, ls, e, c)) (omega (arith, co)) (h .1 .1) in
       let zm : m₂ + length (openedOf 0 x) ≡ m + length (openedIn 0 1 bs ++ openedOf (1 + actionsInside bs) x) = omega (arith, ls, e, c) in
       let zn : n₂ + length (namedOf ℓ m₂ (suc p) x) ≡ n + length (namedIn m bs ++ namedOf ℓ m₂ (suc p) x) = omega (arith, length-append (namedIn m bs) (namedOf ℓ m₂ (suc p) x)) in
+      let zp : suc p + ownActions x ≡ p + suc (ownActions x) = omega arith in
       record {
         own = r .own;
         told =
-            ap (run (block-events bs os (events x k))) (acted-step W N ℓ m n b p (at .here) (at .small) (omega (arith, at .count)) (numberOf a) (omega (arith, number-below a)))
+            ap (run (block-events bs os (events x k))) (acted-step W N ℓ m n p (numberOf a) (omega (arith, number-below a)))
             ∙ i .told
             ∙ r .told
-            ∙ (λ j. run k (naming (r .own) (joined (namedIn m bs) N (namedOf ℓ m₂ (suc p) x) n n₂ refl j) (standing ℓ (zm j) (zn j))));
-        keeps = λ j l d. r .keeps j (omega arith) d ∙ i .keeps j l ∙ getD-set-other W ℓ j w₁ 0 d;
-        here = r .here ∙ ap (λ q. levelWord (so-far b q)) zp;
-        long = r .long ∙ i .long ∙ length-set W ℓ w₁;
+            ∙ (λ j. run k (naming (r .own) (joined (namedIn m bs) N (namedOf ℓ m₂ (suc p) x) n n₂ refl j) (standing ℓ (zm j) (zn j) (zp j))));
+        keeps = λ j l. r .keeps j (omega arith) ∙ i .keeps j l;
+        long = r .long ∙ i .long;
       }
 
-  of-blocks : (bs : Blocks) (os : List Lexeme) (k : List Event) (W N : List ℕ) (ℓ m n : ℕ) → ℓ < m → m + length (openedIn 0 0 bs) ≤ 65537 → m + length (openedIn 0 0 bs) ≤ length W
-      → actionsInside bs ≤ 65536 → All IsLow os → AllIn IsLow bs → BehindIn bs os k W N ℓ m n
-  of-blocks no-blocks os k W N ℓ m n i fe ro co l h =
+  of-blocks : (bs : Blocks) (os : List Lexeme) (k : List Event) (W N : List ℕ) (ℓ m n p : ℕ) → m + length (openedIn 0 0 bs) ≤ length W → p + actionsInside bs ≤ 65536
+      → All IsLow os → AllIn IsLow bs → BehindIn bs os k W N ℓ m n p
+  of-blocks no-blocks os k W N ℓ m n p ro co l h =
       let zm : m ≡ m + 0 = omega arith in
       let zn : n ≡ n + 0 = omega arith in
       record {
         own = W;
-        told = gave os k (naming W N (standing ℓ m n)) l ∙ ap (run k) (λ j. naming W N (standing ℓ (zm j) (zn j)));
+        told = gave os k (naming W N (standing ℓ m n p)) l ∙ ap (run k) (λ j. naming W N (standing ℓ (zm j) (zn j) p));
         keeps = λ j d. refl;
         long = refl;
       }
-  of-blocks (block p x bs) os k W N ℓ m n i fe ro co l h =
-      let rest = block-events bs (waiting p os) k in
-      let w₁ = levelWord (so-far (B.Body ℓ) 0) in
-      let W₁ = set W m w₁ in
+  of-blocks (block q x bs) os k W N ℓ m n p ro co l h =
+      let rest = block-events bs (waiting q os) k in
+      let W₁ = set W m (placed ℓ p) in
       let m₃ = suc m + length (openedOf 0 x) in
       let n₃ = n + length (namedOf m (suc m) 0 x) in
       let ls = length-append (openedOf 0 x) (openedIn 0 (0 + allActions x) bs) in
       let e = opened-counts bs 0 0 (0 + allActions x) 0 in
-      let lw = length-set W m w₁ in
-      let r = of-items x (E.closed ∷ rest) W₁ N m (suc m) n (B.Body ℓ) 0
-      (record {
-        inside = omega arith;
-        here = getD-set-same W m w₁ 0 (omega (arith, ro));
-        small = omega (arith, fe);
-        room = omega (arith, ro, ls, e, lw);
-        few = omega (arith, fe, ls, e);
-        count = omega (arith, co);
-      }) (h .0) in
-      let b = of-blocks bs (waiting p os) k (r .own) (sets N n (namedOf m (suc m) 0 x)) ℓ m₃ n₃ (omega arith) (omega (arith, fe, ls, e))
-      (omega (arith, ro, ls, e, lw, r .long)) (omega (arith, co)) (low-waiting p os l) (h .1) in
+      let lw = length-set W m (placed ℓ p) in
+      let r = of-items x (E.closed ∷ rest) W₁ N m (suc m) n 0 (omega (arith, ro, ls, e, lw)) (omega (arith, co)) (h .0) in
+      let b = of-blocks bs (waiting q os) k (r .own) (sets N n (namedOf m (suc m) 0 x)) ℓ m₃ n₃ p (omega (arith, ro, ls, e, lw, r .long)) (omega (arith, co)) (low-waiting q os l) (h .1) in
       let zm : m₃ + length (openedIn 0 0 bs) ≡ m + suc (length (openedOf 0 x ++ openedIn 0 (0 + allActions x) bs)) = omega (arith, ls, e) in
       let zn : n₃ + length (namedIn m₃ bs) ≡ n + length (namedOf m (suc m) 0 x ++ namedIn m₃ bs) = omega (arith, length-append (namedOf m (suc m) 0 x) (namedIn m₃ bs)) in
       record {
         own = b .own;
         told =
-            gave (leading p os) (E.opened p ∷ events x (E.closed ∷ rest)) (naming W N (standing ℓ m n)) (low-leading p os l)
-            ∙ ap (run (events x (E.closed ∷ rest))) (opened-step W N ℓ m n p)
+            gave (leading q os) (E.opened q ∷ events x (E.closed ∷ rest)) (naming W N (standing ℓ m n p)) (low-leading q os l)
+            ∙ ap (run (events x (E.closed ∷ rest))) (opened-step W N ℓ m n p q)
             ∙ r .told
-            ∙ ap (run rest) (closed-step (r .own) (sets N n (namedOf m (suc m) 0 x)) m m₃ n₃ (B.Body ℓ) (0 + ownActions x) (r .here) (omega (arith, fe)) (omega (arith, own-few x, co)) ℓ refl)
+            ∙ ap (run rest) (closed-step (r .own) (sets N n (namedOf m (suc m) 0 x)) m m₃ n₃ (0 + ownActions x) ℓ p
+            (r .keeps m (omega arith) ∙ getD-set-same W m (placed ℓ p) 0 (omega (arith, ro))) (omega (arith, co)))
             ∙ b .told
-            ∙ (λ j. run k (naming (b .own) (joined (namedOf m (suc m) 0 x) N (namedIn m₃ bs) n n₃ refl j) (standing ℓ (zm j) (zn j))));
-        keeps = λ j d. b .keeps j (omega arith) ∙ r .keeps j (omega arith) (λ q. omega arith) ∙ getD-set-other W m j w₁ 0 (λ q. omega arith);
+            ∙ (λ j. run k (naming (b .own) (joined (namedOf m (suc m) 0 x) N (namedIn m₃ bs) n n₃ refl j) (standing ℓ (zm j) (zn j) p)));
+        keeps = λ j d. b .keeps j (omega arith) ∙ r .keeps j (omega arith) ∙ getD-set-other W m j (placed ℓ p) 0 (λ z. omega arith);
         long = b .long ∙ r .long ∙ lw;
       }
 
 -- a whole text's: its labels stand at the front
-pub all-named : (x : Items) (W N W′ N′ : List ℕ) (n : Namer) → AllOf IsLow x → 1 + length (openedOf 0 x) ≤ length W → 1 + length (openedOf 0 x) ≤ 65537 → allActions x ≤ 65536
+pub all-named : (x : Items) (W N W′ N′ : List ℕ) (n : Namer) → AllOf IsLow x → 1 + length (openedOf 0 x) ≤ length W → allActions x ≤ 65536
     → naming W′ N′ n ≡ steps (words (events x [])) (start W N) → N′ ≡ sets N 0 (namedOf 0 1 0 x)
 unfolding naming
-all-named x W N W′ N′ n h ro fe co e =
-    let w₁ = levelWord (so-far B.Top 0) in
-    let r = of-items x [] (set W 0 w₁) N 0 1 0 B.Top 0
-    (record {
-      inside = omega arith;
-      here = getD-set-same W 0 w₁ 0 (omega arith);
-      small = omega arith;
-      room = omega (arith, length-set W 0 w₁);
-      few = fe;
-      count = omega arith;
-    }) h in
+all-named x W N W′ N′ n h ro co e =
+    let r = of-items x [] (set W 0 0) N 0 1 0 0 (omega (arith, length-set W 0 0)) (omega arith) h in
     ap (λ (T : Naming). T .named) (e ∙ r .told)

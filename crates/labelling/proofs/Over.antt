@@ -97,7 +97,7 @@ module _ (text s log : List ℕ) (n levels : ℕ) (asked : Asked text s log n le
     fronted W N W′ N′ h k c =
         let u = namedOf 0 1 0 x in
         ap (take n)
-        (all-named x W N W′ N′ (c .at) low (omega (arith, levels-is)) (omega (arith, few-of x 0 1 0, known .small, known .few)) few-actions
+        (all-named x W N W′ N′ (c .at) low (omega (arith, levels-is)) few-actions
         (c .all ∙ ap (λ l. steps l (start W N)) e)
         ∙ at-front u N (omega (arith, names-is)))
         ∙ take-at u (drop (length u) N) n (sym names-is)

@@ -1,20 +1,24 @@
 -- What each event of a log adds to its labels, in the order of the text. No public contract cites it.
 use mathlib.Core.Path.{_≡_}
 use mathlib.Core.List.{List, [], _∷_}
-use Prim.Native.Nat.{ℕ, _+_, _≤_}
-use lib.IntN.{pos}
-use lib.ListN.{set}
+use Prim.Native.Nat.{ℕ, _+_, _≤_, _<_}
+use lib.ListN.{getD, set}
 use Rattle.events.specs.declared.Event.{Event}
 use Rattle.events.specs.declared.Event.the-variants as E
 use Rattle.events.specs.Log.{eventOf}
-use Rattle.entries.specs.declared.Block.the-variants as B
-use Rattle.entries.specs.declared.Net.the-variants as N
-use Rattle.entries.specs.declared.Level.{Level}
-use Rattle.entries.specs.Entries.{partOf, levelWord, labelWord, ownerOf}
-use Rattle.entries.specs.Levels.{fresh, withAction, levelAt, Small}
+use Rattle.entries.specs.declared.Label.{Label}
+use Rattle.entries.specs.Entries.{labelWord, labelOf}
 use Rattle.labelling.specs.declared.Namer.{Namer}
 
--- a table of levels in which a level is the body of the level around it, the labels, and what is open
+-- how many actions an event is
+abbrev pub acts : Event → ℕ
+acts (E.Action n) = 1
+acts (E.Label t) = 0
+acts (E.Operand t) = 0
+acts (E.Opened p) = 0
+acts E.Closed = 0
+
+-- where each level opened, the labels, and what is open
 pub record Naming : Type 0 where
   pub own : List ℕ
   pub named : List ℕ
@@ -23,33 +27,38 @@ pub record Naming : Type 0 where
 unfoldable pub naming : List ℕ → List ℕ → Namer → Naming
 naming ws ns n = record { own = ws; named = ns; at = n }
 
--- the open level
-abbrev pub here : Naming → Level
-here T = levelAt (T .own) (T .at .level)
+-- a place in the open level: a label's position is how many actions its level has so far
+abbrev pub here : ℕ → Namer → Label
+here t n = record { level = n .level; token = t; position = n .actions }
+
+-- where level j opened
+abbrev pub opening : List ℕ → ℕ → Label
+opening ws j = labelOf (getD ws j 0)
 
 unfoldable pub acted : Naming → Naming
-acted T = record { own = set (T .own) (T .at .level) (levelWord (withAction (N.Height (pos 0)) (here T))); named = T .named; at = T .at }
+acted T =
+    record { own = T .own; named = T .named; at = record { level = T .at .level; levels = T .at .levels; labels = T .at .labels; actions = T .at .actions + 1 } }
 
--- a label's position is how many actions its level has so far
 unfoldable pub name : ℕ → Naming → Naming
 name t T =
     record {
       own = T .own;
-      named = set (T .named) (T .at .labels) (labelWord (record { level = T .at .level; token = t; position = here T .actions }));
-      at = record { level = T .at .level; levels = T .at .levels; labels = T .at .labels + 1 };
+      named = set (T .named) (T .at .labels) (labelWord (here t (T .at)));
+      at = record { level = T .at .level; levels = T .at .levels; labels = T .at .labels + 1; actions = T .at .actions };
     }
 
 unfoldable pub opened : Naming → Naming
 opened T =
     record {
-      own = set (T .own) (T .at .levels) (levelWord (fresh (partOf 0 (T .at .level))));
+      own = set (T .own) (T .at .levels) (labelWord (here 0 (T .at)));
       named = T .named;
-      at = record { level = T .at .levels; levels = T .at .levels + 1; labels = T .at .labels };
+      at = record { level = T .at .levels; levels = T .at .levels + 1; labels = T .at .labels; actions = 0 };
     }
 
 unfoldable pub closed : Naming → Naming
 closed T =
-    record { own = T .own; named = T .named; at = record { level = ownerOf (here T .block); levels = T .at .levels; labels = T .at .labels } }
+    let p = opening (T .own) (T .at .level) in
+    record { own = T .own; named = T .named; at = record { level = p .level; levels = T .at .levels; labels = T .at .labels; actions = p .position } }
 
 abbrev pub by : Event → Naming → Naming
 by (E.Action n) T = acted T
@@ -67,15 +76,17 @@ steps (w ∷ l) T = steps l (step w T)
 
 -- before the first event: the top level is open
 abbrev pub start : List ℕ → List ℕ → Naming
-start ws ns = naming (set ws 0 (levelWord (fresh B.Top))) ns (record { level = 0; levels = 1; labels = 0 })
+start ws ns = naming (set ws 0 (labelWord (record { level = 0; token = 0; position = 0 }))) ns (record { level = 0; levels = 1; labels = 0; actions = 0 })
 
 -- what `collect` leaves
 pub record Collects (log ws ns ws′ ns′ : List ℕ) : Type 0 where
   pub at : Namer
   pub all : naming ws′ ns′ at ≡ steps log (start ws ns)
 
--- where it can stand behind i events
-pub record Few (i : ℕ) (n : Namer) : Type 0 where
-  pub level : Small (n .level)
+-- where it can stand behind i events: each of its levels opened inside one of them
+pub record Few (i : ℕ) (ws : List ℕ) (n : Namer) : Type 0 where
+  pub level : n .level < n .levels
   pub levels : n .levels ≤ i + 1
   pub labels : n .labels ≤ i
+  pub actions : n .actions ≤ i
+  pub around : (j : ℕ) → j < n .levels → (opening ws j .level < n .levels) × (opening ws j .position ≤ i)

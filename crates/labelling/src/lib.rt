@@ -1,74 +1,104 @@
 // The labels of a log, by level and those of one name brought together, handed to a lent table if it has room: over scratch of the
 // labels' number.
 use entries::Label;
-use entries::Net;
-use entries::add_action;
-use entries::level_at;
-use entries::open_level;
-use entries::open_top;
-use entries::owner_of;
+use entries::label_in;
 use entries::put_label;
 use events::Event;
 use events::event_of;
 use tables::copy_front;
 ghost use mathlib.Core.Path.{_≡_};
 ghost use Prim.Native.Nat.{_+_, _≤_, _<_};
-ghost use lib.ListN.{length, take};
+ghost use lib.ListN.{length, set, take};
 ghost use Rattle.events.specs.Log.{Holds};
-ghost use Rattle.entries.specs.Levels.{Small};
+ghost use Rattle.entries.specs.Entries.{labelWord};
+ghost use Rattle.entries.specs.Levels.{LabelFits};
 ghost use Rattle.labels.specs.Labels.{Merged};
 ghost use Rattle.grouping.specs.Grouping.{grouped};
-ghost use Rattle.labelling.specs.Naming.{naming, by, Collects, Few};
+ghost use Rattle.labelling.specs.Naming.{acts, naming, here, by, Collects, Few};
 ghost use Rattle.labelling.specs.Putting.{Asked, Roomy, LabelsAsked, Puts};
 
-// The level that is open, and how many levels and labels there are.
+// The level that is open, how many levels and labels there are, and how many actions the open level has so far.
 pub struct Namer {
     pub level: usize,
     pub levels: usize,
     pub labels: usize,
+    pub actions: usize,
 }
 
-// `own` is a table of levels in which a level is the body of the level around it.
+// 1 for an action, else 0.
+fn acts(event: Event) -> usize
+    ensures { λ r. ⌜ (r ≡ acts event) × (r ≤ 1) ⌝ }
+{
+    match event {
+        Event::Action(_) => 1,
+        Event::Label(_) => 0,
+        Event::Operand(_) => 0,
+        Event::Opened(_) => 0,
+        Event::Closed => 0,
+    }
+}
+
+// Puts where a label, or a level, stands in the open level.
+fn put_here(table: &mut [u64], at: usize, n: Namer, token: usize)
+    requires { ⌜ LabelFits (here token n) ⌝ }
+    ensures { λ _. ⌜ now (table .exit) ≡ set (now (table .entry)) at (labelWord (here token n)) ⌝ }
+{
+    let place = Label {
+        level: n.level,
+        token,
+        position: n.actions,
+    };
+    put_label(table, at, place);
+}
+
+// `own` tells where each level opened: in which level, and behind how many of its actions, as a label's word does. Actions and operands
+// have one answer, so that the processor need not guess between them.
 fn name_event(event: Event, n: Namer, own: &mut [u64], named: &mut [u64]) -> Namer
-    requires { ⌜ Few 65536 n × Holds event ⌝ }
+    requires { ⌜ Few 65536 (now own) n × Holds event ⌝ }
     ensures { λ r. ⌜ naming (now (own .exit)) (now (named .exit)) r ≡ by event (naming (now (own .entry)) (now (named .entry)) n) ⌝ }
-    ensures { λ r. ⌜ (r .levels ≤ n .levels + 1) × ((r .labels ≤ n .labels + 1) × Small (r .level)) ⌝ }
 {
     let level = n.level;
-    let here = level_at(own, level);
+    let levels = n.levels;
+    let labels = n.labels;
+    let actions = n.actions + acts(event);
     match event {
-        Event::Action(_) => {
-            add_action(own, level, Net::Height(0));
-            n
-        }
+        Event::Action(_) => Namer {
+            level,
+            levels,
+            labels,
+            actions,
+        },
         Event::Label(token) => {
-            let label = Label {
-                level,
-                token: token as usize,
-                position: here.actions,
-            };
-            put_label(named, n.labels, label);
+            put_here(named, labels, n, token as usize);
             Namer {
                 level,
-                levels: n.levels,
-                labels: n.labels + 1,
+                levels,
+                labels: labels + 1,
+                actions: n.actions,
             }
         }
-        Event::Operand(_) => n,
+        Event::Operand(_) => Namer {
+            level,
+            levels,
+            labels,
+            actions,
+        },
         Event::Opened(_) => {
-            open_level(own, n.levels, 0, level);
+            put_here(own, levels, n, 0);
             Namer {
-                level: n.levels,
-                levels: n.levels + 1,
-                labels: n.labels,
+                level: levels,
+                levels: levels + 1,
+                labels,
+                actions: 0,
             }
         }
         Event::Closed => {
-            let block = here.block;
+            let place = label_in(own, level);
             Namer {
-                level: owner_of(block),
-                levels: n.levels,
-                labels: n.labels,
+                level: place.level,
+                levels,
+                labels,
+                actions: place.position,
             }
         }
     }
@@ -79,11 +109,17 @@ fn collect(log: &[u64], own: &mut [u64], named: &mut [u64])
     requires { ⌜ length (now log) ≤ 65536 ⌝ }
     ensures { λ _. ⌜ Collects (now (log .entry)) (now (own .entry)) (now (named .entry)) (now (own .exit)) (now (named .exit)) ⌝ }
 {
-    open_top(own);
+    let top = Label {
+        level: 0,
+        token: 0,
+        position: 0,
+    };
+    put_label(own, 0, top);
     let mut n = Namer {
         level: 0,
         levels: 1,
         labels: 0,
+        actions: 0,
     };
     let mut i = 0;
     while i < log.len() {
