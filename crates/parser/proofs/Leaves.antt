@@ -209,7 +209,7 @@ item-no-handlers text s q e h σ n L a b c = by (ltb q (length s)) refl
         at-move text s q (level e (item h)) σ n L i ∙ rw m (sym (at-move text s q (level e (item no-handlers)) σ n L i))
     by false z = past-same text s q e (item h) (item no-handlers) σ n L (ltb-false q (length s) z)
 
-pub handler-not : (text s : List ℕ) (c : At) (k : ℕ) → k ≡ kindAt s (c .at) → (k ≡ 0 → ⊥) → HandlerRead text s c H.Nothing
+pub handler-not : (text s : List ℕ) (c : At) (k : ℕ) → k ≡ kindAt s (c .at) → (k ≡ 0 → ⊥) → HandlerRead text s c H.NoNewline
 unfolding HandlerRead
 handler-not text s c k e z = record { says = λ h x σ n L. by (ltb (c .at) (length s)) refl h x σ n L }
   where
@@ -224,13 +224,14 @@ handler-not text s c k e z = record { says = λ h x σ n L. by (ltb (c .at) (len
 pub newline-inside : (s : List ℕ) (at k : ℕ) → k ≡ kindAt s at → k ≡ 0 → at + 1 ≤ length s
 newline-inside s at k e z = let i = kind-there s at 0 (sym e ∙ z) (omega arith) in omega arith
 
-pub handler-none : (text s : List ℕ) (c : At) (k q m : ℕ) → k ≡ kindAt s (c .at) → k ≡ 0 → NewlinesRead text s (c .at + 1) q → m ≡ kindAt s q → (m ≡ 16 → ⊥) → (m ≡ 17 → ⊥) → HandlerRead text s c H.Nothing
+pub handler-item : (text s : List ℕ) (c : At) (k q m : ℕ) → k ≡ kindAt s (c .at) → k ≡ 0 → NewlinesRead text s (c .at + 1) q → m ≡ kindAt s q → (m ≡ 16 → ⊥) → (m ≡ 17 → ⊥) → HandlerRead text s c (H.Item q)
 unfolding HandlerRead
-handler-none text s c k q m e z v f a b =
+handler-item text s c k q m e z v f a b =
     record {
       says = λ h x σ n L.
-          to-item text s (c .at) q x h σ n L (sym e ∙ z) v ∙ item-no-handlers text s q x h σ n L (v .stops) (λ y. a (f ∙ y)) (λ y. b (f ∙ y))
-          ∙ sym (to-item text s (c .at) q x no-handlers σ n L (sym e ∙ z) v);
+          to-item text s (c .at) q x h σ n L (sym e ∙ z) v ∙ item-no-handlers text s q x h σ n L (v .stops) (λ y. a (f ∙ y)) (λ y. b (f ∙ y));
+      from = omega (arith, v .from);
+      to = v .to;
     }
 
 catch-goes : (text s : List ℕ) (q : ℕ) (o : Option Lexeme) (e : Nesting) (σ : List Symbol) (n : ℕ) (L : Log) → q < length s → kind s q ≡ 16 →
@@ -239,7 +240,7 @@ catch-goes text s q none e σ n L i k = at-step text s q (level e (item (after-t
 catch-goes text s q (some t) e σ n L i k =
     at-step text s q (level e (item (after-try (some t)))) (opens catch ∷ level e (ended after-catch) ∷ []) σ (target-out (some t)) n L i (rw k)
 
-pub handler-catch : (text s : List ℕ) (c : At) (k q m : ℕ) → k ≡ kindAt s (c .at) → k ≡ 0 → NewlinesRead text s (c .at + 1) q → m ≡ kindAt s q → m ≡ 16 → HandlerRead text s c (H.Catch (q + 1))
+pub handler-catch : (text s : List ℕ) (c : At) (k q m : ℕ) → k ≡ kindAt s (c .at) → k ≡ 0 → NewlinesRead text s (c .at + 1) q → m ≡ kindAt s q → m ≡ 16 → HandlerRead text s c (H.Catch q)
 unfolding HandlerRead
 handler-catch text s c k q m e z v f a =
     let i = kind-known s q m 16 f a (omega arith) in
@@ -247,14 +248,12 @@ handler-catch text s c k q m e z v f a =
     let y = i .1 in
     record {
       says = λ o x σ n L. to-item text s (c .at) q x (after-try o) σ n L (sym e ∙ z) v ∙ catch-goes text s q o x σ n L l y;
-      again = λ x σ n L.
-          to-item text s (c .at) q x after-catch σ n L (sym e ∙ z) v ∙ at-stop text s q (level x (item after-catch)) σ n L l (rw y)
-          ∙ sym (at-stop text s q (level x (item no-handlers)) σ n L l (rw y)) ∙ sym (to-item text s (c .at) q x no-handlers σ n L (sym e ∙ z) v);
+      again = λ x σ n L. to-item text s (c .at) q x after-catch σ n L (sym e ∙ z) v ∙ at-stop text s q (level x (item after-catch)) σ n L l (rw y);
       from = omega (arith, v .from);
-      to = omega arith;
+      to = l;
     }
 
-pub handler-finally : (text s : List ℕ) (c : At) (k q m : ℕ) → k ≡ kindAt s (c .at) → k ≡ 0 → NewlinesRead text s (c .at + 1) q → m ≡ kindAt s q → m ≡ 17 → HandlerRead text s c (H.Finally (q + 1))
+pub handler-finally : (text s : List ℕ) (c : At) (k q m : ℕ) → k ≡ kindAt s (c .at) → k ≡ 0 → NewlinesRead text s (c .at + 1) q → m ≡ kindAt s q → m ≡ 17 → HandlerRead text s c (H.Finally q)
 unfolding HandlerRead
 handler-finally text s c k q m e z v f a =
     let i = kind-known s q m 17 f a (omega arith) in
@@ -266,5 +265,5 @@ handler-finally text s c k q m e z v f a =
       says-catch = λ x σ n L.
           to-item text s (c .at) q x after-catch σ n L (sym e ∙ z) v ∙ at-step text s q (level x (item after-catch)) (opens finally ∷ level x (ended no-handlers) ∷ []) σ silent n L l (rw y);
       from = omega (arith, v .from);
-      to = omega arith;
+      to = l;
     }

@@ -1,3 +1,5 @@
 pub mod Leaves
-pub mod Cycle
+pub mod BlockLaws
+pub mod TryLaws
+pub mod LevelLaws
 pub mod Whole

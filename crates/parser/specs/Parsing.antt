@@ -57,33 +57,41 @@ pub record NewlinesRead (text s : List ℕ) (at r : ℕ) : Type 0 where
   pub to : r ≤ length s
   pub stops : kindAt s r ≡ 0 → ⊥
 
--- no handler follows that could: the action has ended
-abbrev pub Ended-at : List ℕ → List ℕ → ℕ → Handlers → Type 0
-Ended-at text s at h = (e : Nesting) (σ : List Symbol) (d : ℕ) (L : Log) → judge text s (level e (ended h) ∷ σ) d L at ≡ judge text s (level e (ended no-handlers) ∷ σ) d L at
+-- no newline follows, whatever handlers could
+pub record NoNewlineSeen (text s : List ℕ) (c : At) : Type 0 where
+  pub says : (h : Handlers) (e : Nesting) (σ : List Symbol) (d : ℕ) (L : Log) →
+      judge text s (level e (ended h) ∷ σ) d L (c .at) ≡ judge text s (level e (ended no-handlers) ∷ σ) d L (c .at)
 
-pub record NoneSeen (text s : List ℕ) (c : At) : Type 0 where
-  pub says : (h : Handlers) → Ended-at text s (c .at) h
+-- behind newlines, at q, an item follows or the end of the level
+pub record ItemSeen (text s : List ℕ) (c : At) (q : ℕ) : Type 0 where
+  pub says : (h : Handlers) (e : Nesting) (σ : List Symbol) (d : ℕ) (L : Log) →
+      judge text s (level e (ended h) ∷ σ) d L (c .at) ≡ judge text s (level e (item no-handlers) ∷ σ) d L q
+  pub from : c .at < q
+  pub to : q ≤ length s
 
+-- the word `catch` at q, behind a try block or, where none may follow, behind a catch block
 pub record CatchSeen (text s : List ℕ) (c : At) (q : ℕ) : Type 0 where
   pub says : (o : Option Lexeme) (e : Nesting) (σ : List Symbol) (d : ℕ) (L : Log) →
-      judge text s (level e (ended (after-try o)) ∷ σ) d L (c .at) ≡ judge text s (opens catch ∷ level e (ended after-catch) ∷ σ) d (puts emit (target-out o) L) q
-  pub again : Ended-at text s (c .at) after-catch
-  pub from : c .at + 1 < q
-  pub to : q ≤ length s
+      judge text s (level e (ended (after-try o)) ∷ σ) d L (c .at) ≡ judge text s (opens catch ∷ level e (ended after-catch) ∷ σ) d (puts emit (target-out o) L) (q + 1)
+  pub again : (e : Nesting) (σ : List Symbol) (d : ℕ) (L : Log) → judge text s (level e (ended after-catch) ∷ σ) d L (c .at) ≡ fault (length s - q)
+  pub from : c .at < q
+  pub to : q < length s
 
 -- behind a try block or a catch block
 abbrev pub Finally-at : List ℕ → List ℕ → ℕ → ℕ → Handlers → Type 0
 Finally-at text s at q h = (e : Nesting) (σ : List Symbol) (d : ℕ) (L : Log) →
-    judge text s (level e (ended h) ∷ σ) d L at ≡ judge text s (opens finally ∷ level e (ended no-handlers) ∷ σ) d L q
+    judge text s (level e (ended h) ∷ σ) d L at ≡ judge text s (opens finally ∷ level e (ended no-handlers) ∷ σ) d L (q + 1)
 
+-- the word `finally` at q
 pub record FinallySeen (text s : List ℕ) (c : At) (q : ℕ) : Type 0 where
   pub says-try : (o : Option Lexeme) → Finally-at text s (c .at) q (after-try o)
   pub says-catch : Finally-at text s (c .at) q after-catch
-  pub from : c .at + 1 < q
-  pub to : q ≤ length s
+  pub from : c .at < q
+  pub to : q < length s
 
 unfoldable pub HandlerRead : List ℕ → List ℕ → At → Handler → Type 0
-HandlerRead text s c H.Nothing = NoneSeen text s c
+HandlerRead text s c H.NoNewline = NoNewlineSeen text s c
+HandlerRead text s c (H.Item q) = ItemSeen text s c q
 HandlerRead text s c (H.Catch q) = CatchSeen text s c q
 HandlerRead text s c (H.Finally q) = FinallySeen text s c q
 
@@ -140,18 +148,22 @@ partOf B.Finally = finally
 abbrev pub BlockRead : BlockKind → List ℕ → List ℕ → List ℕ → List ℕ → At → ℕ → Step → Type 0
 BlockRead k text s a b c d r = ReadsIn (λ e. opens (partOf k) ∷ []) nothing text s a b c d r
 
+-- a block and the end of its action
+abbrev pub LastBlockRead : BlockKind → List ℕ → List ℕ → List ℕ → List ℕ → At → ℕ → Step → Type 0
+LastBlockRead k text s a b c d r = ReadsIn (λ e. opens (partOf k) ∷ level e (ended no-handlers) ∷ []) at-item text s a b c d r
+
 abbrev pub TryRead : List ℕ → List ℕ → List ℕ → List ℕ → At → ℕ → Step → Type 0
-TryRead text s a b c d r = ReadsIn (λ e. targets e ∷ []) at-end text s a b c d r
+TryRead text s a b c d r = ReadsIn (λ e. targets e ∷ []) at-item text s a b c d r
 
 -- behind a try block, and behind a catch block
 abbrev pub HandlersRead : CatchTarget → List ℕ → List ℕ → List ℕ → List ℕ → At → ℕ → Step → Type 0
-HandlersRead t text s a b c d r = ReadsIn (λ e. level e (ended (after-try (targetOf text s t))) ∷ []) at-end text s a b c d r
+HandlersRead t text s a b c d r = ReadsIn (λ e. level e (ended (after-try (targetOf text s t))) ∷ []) at-item text s a b c d r
 
 abbrev pub LastRead : List ℕ → List ℕ → List ℕ → List ℕ → At → ℕ → Step → Type 0
-LastRead text s a b c d r = ReadsIn (λ e. level e (ended after-catch) ∷ []) at-end text s a b c d r
+LastRead text s a b c d r = ReadsIn (λ e. level e (ended after-catch) ∷ []) at-item text s a b c d r
 
 abbrev pub BlocksRead : Shape → List ℕ → List ℕ → List ℕ → List ℕ → At → ℕ → Step → Type 0
-BlocksRead w text s a b c d r = ReadsIn (left (planOf w)) at-end text s a b c d r
+BlocksRead w text s a b c d r = ReadsIn (left (planOf w)) at-item text s a b c d r
 
 -- the token at c closes no level; it is no label and no newline either
 pub record NotClosing (s : List ℕ) (c : At) : Type 0 where

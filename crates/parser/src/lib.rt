@@ -20,7 +20,7 @@ ghost use lib.ListN.{length};
 ghost use Rattle.classes.specs.Lexemes.{Sound, kindAt};
 ghost use Rattle.operands.specs.Log.{partNumber};
 ghost use Rattle.operands.specs.Contract.{Fine};
-ghost use Rattle.parser.specs.Parsing.{EndRead, ColonRead, LabelRead, NewlinesRead, HandlerRead, TargetRead, pastTarget, moveTo, GiveAsked, GiveRead, TargetBefore, BlockRead, TryRead, HandlersRead, LastRead, BlocksRead, NotClosing, Plain, ItemRead, LevelRead, partOf};
+ghost use Rattle.parser.specs.Parsing.{EndRead, ColonRead, LabelRead, NewlinesRead, HandlerRead, TargetRead, pastTarget, moveTo, GiveAsked, GiveRead, TargetBefore, BlockRead, LastBlockRead, TryRead, HandlersRead, LastRead, BlocksRead, NotClosing, Plain, ItemRead, LevelRead, partOf};
 ghost use Rattle.parser.specs.Parsed.{Parsed};
 
 // Places of kinds in `TokenKind`.
@@ -55,9 +55,10 @@ pub enum CatchTarget {
     Token(usize),
 }
 
-// What follows a block of a Try: the place behind the word, or nothing.
+// What follows a block of a Try: no newline, or, behind all newlines, the place of another item or of a handler's word.
 pub enum Handler {
-    Nothing,
+    NoNewline,
+    Item(usize),
     Catch(usize),
     Finally(usize),
 }
@@ -134,7 +135,7 @@ fn newlines(text: &[u8], s: &[u64], at: usize) -> usize
     p
 }
 
-// The word `catch` or `finally` behind one or more newlines.
+// The newlines behind a block of a Try, and the one token behind them.
 fn next_handler(text: &[u8], s: &[u64], c: At) -> Handler
     requires { ⌜ Fine (now text) (now s) c ⌝ }
     ensures { λ r. ⌜ HandlerRead (now (text .entry)) (now (s .entry)) c r ⌝ }
@@ -142,17 +143,17 @@ fn next_handler(text: &[u8], s: &[u64], c: At) -> Handler
     let at = c.at;
     let k = kind_at(s, at);
     if k != NEWLINE {
-        return Handler::Nothing;
+        return Handler::NoNewline;
     }
     let q = newlines(text, s, at + 1);
     let n = kind_at(s, q);
     if n == CATCH {
-        return Handler::Catch(q + 1);
+        return Handler::Catch(q);
     }
     if n == FINALLY {
-        return Handler::Finally(q + 1);
+        return Handler::Finally(q);
     }
-    Handler::Nothing
+    Handler::Item(q)
 }
 
 // A string or a register before the block of a Try.
@@ -287,25 +288,33 @@ fn action(text: &[u8], s: &[u64], events: &mut [u64], c: At, room: usize) -> Ste
     let Step::To(p) = r else {
         return r;
     };
-    let z = blocks(text, s, events, p, room, w);
-    let Step::To(q) = z else {
-        return z;
-    };
-    end_of_action(text, s, q)
+    blocks(text, s, events, p, room, w)
 }
 
-// The blocks behind an action's operands.
+// The blocks behind an action's operands, and the action's end.
 fn blocks(text: &[u8], s: &[u64], events: &mut [u64], c: At, room: usize, w: Shape) -> Step
     requires { ⌜ Fine (now text) (now s) c ⌝ }
     ensures { λ r. ⌜ BlocksRead w (now (text .entry)) (now (s .entry)) (now (events .entry)) (now (events .exit)) c room r ⌝ }
 {
     match w {
-        Shape::Function => block(text, s, events, c, room, BlockKind::Body),
-        Shape::Function2 => block(text, s, events, c, room, BlockKind::Body),
-        Shape::Block => block(text, s, events, c, room, BlockKind::Body),
+        Shape::Function => last_block(text, s, events, c, room, BlockKind::Body),
+        Shape::Function2 => last_block(text, s, events, c, room, BlockKind::Body),
+        Shape::Block => last_block(text, s, events, c, room, BlockKind::Body),
         Shape::Try => try_catch(text, s, events, c, room),
-        _ => Step::To(c),
+        _ => end_of_action(text, s, c),
     }
+}
+
+// A block that no other block of its action can follow.
+fn last_block(text: &[u8], s: &[u64], events: &mut [u64], c: At, room: usize, b: BlockKind) -> Step
+    requires { ⌜ Fine (now text) (now s) c ⌝ }
+    ensures { λ r. ⌜ LastBlockRead b (now (text .entry)) (now (s .entry)) (now (events .entry)) (now (events .exit)) c room r ⌝ }
+{
+    let r = block(text, s, events, c, room, b);
+    let Step::To(p) = r else {
+        return r;
+    };
+    end_of_action(text, s, p)
 }
 
 fn block(text: &[u8], s: &[u64], events: &mut [u64], c: At, room: usize, b: BlockKind) -> Step
@@ -327,7 +336,7 @@ fn block(text: &[u8], s: &[u64], events: &mut [u64], c: At, room: usize, b: Bloc
     actions(text, s, events, d, room - 1, true)
 }
 
-// The blocks of a Try, with its target.
+// The blocks of a Try, with its target, and its end.
 fn try_catch(text: &[u8], s: &[u64], events: &mut [u64], c: At, room: usize) -> Step
     requires { ⌜ Fine (now text) (now s) c ⌝ }
     ensures { λ r. ⌜ TryRead (now (text .entry)) (now (s .entry)) (now (events .entry)) (now (events .exit)) c room r ⌝ }
@@ -349,13 +358,14 @@ fn handlers(text: &[u8], s: &[u64], events: &mut [u64], c: At, room: usize, a: C
 {
     let x = next_handler(text, s, c);
     match x {
-        Handler::Nothing => Step::To(c),
+        Handler::NoNewline => end_of_action(text, s, c),
+        Handler::Item(q) => Step::To(move_to(c, q)),
         Handler::Finally(q) => {
-            let e = move_to(c, q);
-            block(text, s, events, e, room, BlockKind::Finally)
+            let e = move_to(c, q + 1);
+            last_block(text, s, events, e, room, BlockKind::Finally)
         }
         Handler::Catch(q) => {
-            let e = move_to(c, q);
+            let e = move_to(c, q + 1);
             let f = give_target(events, e, a);
             let y = block(text, s, events, f, room, BlockKind::Catch);
             let Step::To(p) = y else {
@@ -373,11 +383,13 @@ fn last_handler(text: &[u8], s: &[u64], events: &mut [u64], c: At, room: usize) 
 {
     let x = next_handler(text, s, c);
     match x {
+        Handler::NoNewline => end_of_action(text, s, c),
+        Handler::Item(q) => Step::To(move_to(c, q)),
         Handler::Finally(q) => {
-            let e = move_to(c, q);
-            block(text, s, events, e, room, BlockKind::Finally)
+            let e = move_to(c, q + 1);
+            last_block(text, s, events, e, room, BlockKind::Finally)
         }
-        _ => Step::To(c),
+        Handler::Catch(q) => Step::Bad(q),
     }
 }
 

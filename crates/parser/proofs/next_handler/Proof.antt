@@ -1,6 +1,6 @@
 -- `parser::next_handler` meets its contract. Assumes nothing.
 use borrow.Author.Needs.{needs}
-use Rattle.parser.proofs.Leaves.{handler-not, newline-inside, handler-catch, handler-finally, handler-none}
+use Rattle.parser.proofs.Leaves.{handler-not, newline-inside, handler-catch, handler-finally, handler-item}
 use Rattle.parser.proofs.next_handler.Statement.{statement}
 use Rattle.parser.proofs.next_handler.Tie as tie
 
@@ -13,8 +13,6 @@ next-handler-spec =
     (λ c. search needs)
     (λ c κs. search newline-inside)
     (λ c κs. search needs)
-    (λ c. search needs)
     (λ c. search handler-catch)
-    (λ c. search needs)
     (λ c. search handler-finally)
-    (λ c. search handler-none))
+    (λ c. search handler-item))
