@@ -39,6 +39,10 @@ within n s = cond (isWithin n s) s (span 0 0)
 abbrev pub part : List ℕ → Span → List ℕ
 part text s = take (s .end - s .start) (drop (s .start) text)
 
+-- where the raw text of a token lies in a text of n bytes
+abbrev pub rawBounds : ℕ → Token → Span
+rawBounds n t = within n (t .raw)
+
 -- the raw text of a token: that part of the text
 abbrev pub rawText : List ℕ → Token → List ℕ
-rawText text t = part text (within (length text) (t .raw))
+rawText text t = part text (rawBounds (length text) t)

@@ -3,9 +3,10 @@ use actions::action_at;
 use actions::action_number;
 use names::ActionName;
 ghost use mathlib.Core.Path.{_≡_};
-ghost use Prim.Native.Nat.{_<_, _≤_};
+ghost use Prim.Native.Nat.{_+_, _<_, _≤_};
+ghost use lib.ListN.{length};
 ghost use Rattle.tokens.specs.Kinds.{codeOf, kindNumber, kindOf};
-ghost use Rattle.tokens.specs.Tokens.{span, tokenIn, wordOf, tokenOf, within, rawText};
+ghost use Rattle.tokens.specs.Tokens.{span, tokenIn, wordOf, tokenOf, within, rawBounds, rawText};
 
 pub enum TokenKind {
     Newline,
@@ -177,9 +178,10 @@ pub fn bounds_within(len: usize, bounds: Span) -> Span
     bounds
 }
 
-// The raw text of a token, as that part of the caller's text. It refuses nothing.
+// The raw text of a token, as that part of the caller's text: those bytes, from that byte of the text on. It refuses nothing.
 pub fn raw_text(text: &[u8], token: Token) -> &[u8]
     ensures { λ r. ⌜ now r ≡ rawText (now (text .entry)) token ⌝ }
+    ensures { λ r. ⌜ r .ptr ≡ (text .entry .ptr .0, rawBounds (length (now (text .entry))) token .start + text .entry .ptr .1) ⌝ }
 {
     let raw = token.raw;
     let bounds = bounds_within(text.len(), raw);

@@ -14,7 +14,7 @@ same-level : tie.Need-returns-2
 same-level c =
     let a = c .before .before .before .before .before .before .before .before .args in
     compared (a .text .now) (a .tokens .now) (a .level) (a .name .now) (a .label) (c .before .before .before .if1 .left)
-    (c .before .before .token-in .ensures) (c .before .raw-text .ensures) (c .same-bytes .ensures)
+    (c .before .before .token-in .ensures) (c .before .raw-text .ensures .0) (c .same-bytes .ensures)
 
 pub is-named-spec : {M : Type 1} → statement M
 is-named-spec = tie.close (tie.spec other-level (λ c κs. search needs) (λ c κs. search needs) (λ c κs. search needs) same-level)

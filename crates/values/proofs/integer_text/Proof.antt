@@ -14,7 +14,7 @@ nothing c =
 its-text : tie.Need-returns-2
 its-text c =
     let a = c .before .before .before .before .args in
-    c .raw-text .ensures
+    c .raw-text .ensures .0
     ∙ laws.its-text (a .text .now) (a .token) _ (c .before .before .is-integer .ensures) (not-false _ (c .before .if1 .left))
 
 pub integer-text-spec : {M : Type 1} → statement M
