@@ -1,4 +1,5 @@
 pub mod Rows
 pub mod Kept
 pub mod Handed
+pub mod Exactly
 pub mod Theorems

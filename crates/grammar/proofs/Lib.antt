@@ -9,6 +9,7 @@ pub mod LabelRange
 pub mod NetBounds
 pub mod Outcomes
 pub mod Texts
+pub mod Exactly
 pub mod Computed
 pub mod Cases
 pub mod Starred

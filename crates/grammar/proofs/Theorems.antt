@@ -1,22 +1,26 @@
 -- THE THEOREMS about the written grammar, each with the file that proves it. What they speak of is defined in specs/: `Reads`
--- in Reading, `Nets` in Nets, `Outcome` and `Answers` in Refusals. They assume nothing.
+-- in Reading, `Nets` in Nets, `Outcome` and `Answers` in Refusals, `Acceptable` and `Unreadable` in Demand3. They assume nothing.
 use mathlib.Core.Path.{_≡_}
 use mathlib.Core.List.{List, [], _∷_, map, List·Memᴰ}
-use mathlib.Core.Logic.{_⊎_}
+use mathlib.Core.Logic.{_⊎_, _↔_}
 use Prim.Native.Nat.{ℕ, _+_, _*_, _≤_, _<_}
 use native.Mathlib.Omega.{arith}
 use lib.IntN.{ℤ, pos, negℤ}
 use lib.ListN.{length, getD}
 use lib.Signed.{_≤ℤ_}
-use Rattle.answers.specs.Answers.{Answer}
-use Rattle.lexemes.specs.Lexemes.{Lexeme}
+use Rattle.answers.specs.Answers.{Answer, accepted, refused}
+use Rattle.lexer.specs.Lexing.{lexText}
+use Rattle.tokens.specs.declared.Token.{Token}
+use Rattle.lexemes.specs.Lexemes.{Lexeme, numbered}
 use Rattle.grammar.specs.Reading.{Reading, Level, Label, Reads, Grammatical}
 use Rattle.grammar.specs.Nets.{Net, height, Nets}
 use Rattle.grammar.specs.Refusals.{NotGrammatical, Outcome, Short, Answers}
+use Rattle.grammar.specs.Demand3.{Acceptable, Unreadable}
 use Rattle.grammar.proofs.Unique as Unique
 use Rattle.grammar.proofs.Place as Place
 use Rattle.grammar.proofs.Outcomes as Outcomes
 use Rattle.grammar.proofs.Texts as Texts
+use Rattle.grammar.proofs.Exactly as Exactly
 use Rattle.grammar.proofs.Sizes as Sizes
 use Rattle.grammar.proofs.LabelRange as LabelRange
 use Rattle.grammar.proofs.NetBounds as NetBounds
@@ -55,6 +59,24 @@ answer room places text = Texts.answer room places text
 
 pub one-answer : (room : ℕ) (places text : List ℕ) {y z : Answer Reading} → Answers room places text y → Answers room places text z → y ≡ z
 one-answer room places text a b = Texts.one-answer room places text a b
+
+-- demand 3's first sentence: a text is accepted exactly when none of 1 to 5, 7, 8 applies and its tokens have exactly one
+-- reading, and with that
+pub accepts-exactly-when : (room : ℕ) (places text : List ℕ) (R : Reading) → Answers room places text (accepted R) ↔ Acceptable room places text R
+accepts-exactly-when room places text R = Exactly.accepts-exactly-when room places text R
+
+-- its second sentence: 6 exactly when its tokens have no reading and no 7 comes earlier
+pub six-exactly-when : (room : ℕ) (places text : List ℕ) → ((k : ℕ) × Answers room places text (refused 6 k)) ↔ Unreadable room text
+six-exactly-when room places text = Exactly.six-exactly-when room places text
+
+-- at the first token that no grammatical list could have after those before it, or at the end
+pub six-at : (room : ℕ) (places text : List ℕ) {ts : List Token} {k : ℕ} →
+    Answers room places text (refused 6 k) → lexText text room ≡ accepted ts → NotGrammatical (numbered 0 text ts) k
+six-at room places text a e = Exactly.six-at room places text a e
+
+-- 'none of 1 to 5' is that lexing accepts: it refuses with these alone
+pub one-to-five : (room : ℕ) (text : List ℕ) {n p : ℕ} → lexText text room ≡ refused n p → (1 ≤ n) × (n ≤ 5)
+one-to-five room text e = Exactly.one-to-five room text e
 
 -- no label's position is above its level's action count; so it is 0 in a level with no action
 abbrev actionsAt : Reading → ℕ → ℕ
