@@ -1,6 +1,6 @@
 -- The first token by what the code tests, and that it ends within the text. Assumes nothing.
 use mathlib.Core.Path.{_≡_, refl, ap, sym, _∙_, subst}
-use mathlib.Core.Bool.{Bool, true, false, cond}
+use mathlib.Core.Bool.{Bool, true, false, cond, _||_}
 use mathlib.Core.List.{List}
 use Prim.Native.Nat.{ℕ, _+_, _-_, _≤_, _<_}
 use native.Mathlib.Omega.{arith}
@@ -8,15 +8,15 @@ use lib.Dec.{eqb, ltb}
 use lib.ListN.{length, take, drop, getD, length-drop}
 use borrow.Author.Tests.{lt-ltb, le-ltb, eq-eqb, ne-eqb, eqb-true}
 use Rattle.laws.proofs.Lists.{to-the-end}
+use Rattle.tokens.specs.declared.TokenKind.{TokenKind}
 use Rattle.tokens.specs.declared.TokenKind.the-variants as K
-use Rattle.scanner.specs.Bytes.{isWordByte}
+use Rattle.scanner.specs.Bytes.{between, isDigit, isWordByte}
 use Rattle.scanner.specs.Ends.{digitsEnd, exponentEnd, pointEnd, stringStop}
 use Rattle.scanner.proofs.Runs.{inside, run-fits, stop-fits}
 use Rattle.scanner.proofs.Ends.{digits-within, exponent-within, point-within}
-use Rattle.first_token.specs.First.{classOf, first, firstBy, numberAt, returnAt, stringAt, wordAt}
+use Rattle.keywords.proofs.Range.{Plain}
+use Rattle.first_token.specs.First.{first, firstOf, numberAt, returnAt, stringAt, wordAt}
 use Rattle.first_token.specs.Fitting.{Fitting}
-use Rattle.first_token.specs.declared.Class.{Class}
-use Rattle.first_token.specs.declared.Class.the-variants as C
 use Rattle.first_token.specs.declared.Found.{Found}
 use Rattle.first_token.specs.declared.Found.the-variants as F
 
@@ -59,15 +59,33 @@ module _ (s : List ℕ) (e b : ℕ) (ee : e ≡ stringStop s 1) (at : b ≡ getD
       unfolding stringAt
       cut h = simp (← ee, ← at, ne-eqb b 34 n, ne-eqb e 1 m, ← last, le-ltb d 128 h)
 
--- an answer for the class that the first byte has
-pub by-class : (s : List ℕ) (k x : Class) (r : Found) → k ≡ classOf (getD s 0 0) → k ≡ x → r ≡ firstBy x s → r ≡ first s
-by-class s k x r ek ex er = er ∙ ap (λ (q : Class). firstBy q s) (sym ex ∙ ek)
+-- ---- by the first byte
+
+-- both cases of a choice
+pub either : (P : Found → Type 0) (t : Bool) (x y : Found) → (t ≡ true → P x) → (t ≡ false → P y) → P (cond t x y)
+either P true x y f g = f refl
+either P false x y f g = g refl
+
+-- what holds of each answer holds of the first token
+pub by-byte : (P : Found → Type 0) (s : List ℕ) (b : ℕ)
+    → ((eqb b 32 || eqb b 9) ≡ true → P F.Blank)
+    → ((k : TokenKind) → Plain k → P (F.Token k 1))
+    → P (returnAt s) → P (wordAt s) → P (numberAt s) → P (stringAt s) → P (F.Token K.Unknown (length s))
+    → P (firstOf s b)
+unfolding firstOf
+by-byte P s b blank one return word number string unknown =
+    either P (eqb b 32 || eqb b 9) _ _ blank (λ e.
+    either P (eqb b 44) _ _ (λ e. one K.Comma (omega arith, refl)) (λ e.
+    either P (eqb b 123) _ _ (λ e. one K.OpenBrace (omega arith, refl)) (λ e.
+    either P (eqb b 125) _ _ (λ e. one K.CloseBrace (omega arith, refl)) (λ e.
+    either P (eqb b 58) _ _ (λ e. one K.Colon (omega arith, refl)) (λ e.
+    either P (eqb b 10) _ _ (λ e. one K.Newline (omega arith, refl)) (λ e.
+    either P (eqb b 13) _ _ (λ e. return) (λ e.
+    either P (between 97 122 b || (between 65 90 b || (eqb b 95 || eqb b 36))) _ _ (λ e. word) (λ e.
+    either P (isDigit b || eqb b 45) _ _ (λ e. number) (λ e.
+    either P (eqb b 34) _ _ (λ e. string) (λ e. unknown))))))))))
 
 -- ---- a token ends within the text
-
-either : (P : Found → Type 0) (t : Bool) (x y : Found) → (t ≡ true → P x) → P y → P (cond t x y)
-either P true x y f h = f refl
-either P false x y f h = h
 
 return-fits : (s : List ℕ) → 0 < length s → Fitting (length s) (returnAt s)
 unfolding returnAt
@@ -91,25 +109,18 @@ string-fits s h =
     let e = stringStop s 1 in
     let w : e ≤ length s = stop-fits false s 1 h in
     either (Fitting (length s)) (eqb (getD s e 0) 34) _ _
-    (λ q. let g : e < length s = inside s e (omega (arith, eqb-true (getD s e 0) 34 q)) in (omega arith, omega arith))
-    (either (Fitting (length s)) (eqb e 1) _ _ (λ q. tt)
-    (either (Fitting (length s)) (ltb (getD s (e - 1) 0) 128) _ _ (λ q. (omega arith, w)) tt))
+    (λ q. let g : e < length s = inside s e (omega (arith, eqb-true (getD s e 0) 34 q)) in (omega arith, omega arith)) (λ q.
+    either (Fitting (length s)) (eqb e 1) _ _ (λ q. tt) (λ q.
+    either (Fitting (length s)) (ltb (getD s (e - 1) 0) 128) _ _ (λ q. (omega arith, w)) (λ q. tt)))
 
 word-fits : (s : List ℕ) → 0 < length s → Fitting (length s) (wordAt s)
 unfolding wordAt
 word-fits s h = (omega arith, run-fits isWordByte s 1 h)
 
-by-class-fits : (x : Class) (s : List ℕ) → 0 < length s → Fitting (length s) (firstBy x s)
-by-class-fits C.Blank s h = tt
-by-class-fits (C.One k) s h = (omega arith, h)
-by-class-fits C.Return s h = return-fits s h
-by-class-fits C.Word s h = word-fits s h
-by-class-fits C.Number s h = number-fits s h
-by-class-fits C.Quote s h = string-fits s h
-by-class-fits C.Other s h = (h, omega arith)
-
 pub first-fits : (s : List ℕ) → 0 < length s → Fitting (length s) (first s)
-first-fits s h = by-class-fits (classOf (getD s 0 0)) s h
+first-fits s h =
+    by-byte (Fitting (length s)) s (getD s 0 0) (λ e. tt) (λ k p. (omega arith, h)) (return-fits s h) (word-fits s h) (number-fits s h) (string-fits s h)
+    (h, omega arith)
 
 -- the same at a byte of a text, for a part that was lent
 module _ (s : List ℕ) (i : ℕ) (h : i < length s) (r : Found) (e : r ≡ first (take (length s - i) (drop i s))) where

@@ -8,24 +8,8 @@ use Rattle.tokens.specs.declared.TokenKind.the-variants as K
 use Rattle.scanner.specs.Bytes.{between, isDigit}
 use Rattle.scanner.specs.Ends.{digitsEnd, exponentEnd, pointEnd, stringStop, wordEnd}
 use Rattle.keywords.specs.Keywords.{wordKind}
-use Rattle.first_token.specs.declared.Class.{Class}
-use Rattle.first_token.specs.declared.Class.the-variants as C
 use Rattle.first_token.specs.declared.Found.{Found}
 use Rattle.first_token.specs.declared.Found.the-variants as F
-
--- the first byte alone decides the class
-unfoldable pub classOf : ℕ → Class
-classOf b =
-    cond (eqb b 32 || eqb b 9) C.Blank
-    (cond (eqb b 44) (C.One K.Comma)
-    (cond (eqb b 123) (C.One K.OpenBrace)
-    (cond (eqb b 125) (C.One K.CloseBrace)
-    (cond (eqb b 58) (C.One K.Colon)
-    (cond (eqb b 10) (C.One K.Newline)
-    (cond (eqb b 13) C.Return
-    (cond (between 97 122 b || (between 65 90 b || (eqb b 95 || eqb b 36))) C.Word
-    (cond (isDigit b || eqb b 45) C.Number
-    (cond (eqb b 34) C.Quote C.Other)))))))))
 
 -- a carriage return takes a following line feed with it
 unfoldable pub returnAt : List ℕ → Found
@@ -50,15 +34,19 @@ stringTo s e =
 unfoldable pub stringAt : List ℕ → Found
 stringAt s = stringTo s (stringStop s 1)
 
--- any other byte: one Unknown token to the end
-abbrev pub firstBy : Class → List ℕ → Found
-firstBy C.Blank s = F.Blank
-firstBy (C.One k) s = F.Token k 1
-firstBy C.Return s = returnAt s
-firstBy C.Word s = wordAt s
-firstBy C.Number s = numberAt s
-firstBy C.Quote s = stringAt s
-firstBy C.Other s = F.Token K.Unknown (length s)
+-- the first byte b alone decides; any other byte: one Unknown token to the end
+unfoldable pub firstOf : List ℕ → ℕ → Found
+firstOf s b =
+    cond (eqb b 32 || eqb b 9) F.Blank
+    (cond (eqb b 44) (F.Token K.Comma 1)
+    (cond (eqb b 123) (F.Token K.OpenBrace 1)
+    (cond (eqb b 125) (F.Token K.CloseBrace 1)
+    (cond (eqb b 58) (F.Token K.Colon 1)
+    (cond (eqb b 10) (F.Token K.Newline 1)
+    (cond (eqb b 13) (returnAt s)
+    (cond (between 97 122 b || (between 65 90 b || (eqb b 95 || eqb b 36))) (wordAt s)
+    (cond (isDigit b || eqb b 45) (numberAt s)
+    (cond (eqb b 34) (stringAt s) (F.Token K.Unknown (length s)))))))))))
 
 abbrev pub first : List ℕ → Found
-first s = firstBy (classOf (getD s 0 0)) s
+first s = firstOf s (getD s 0 0)

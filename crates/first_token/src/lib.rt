@@ -4,18 +4,7 @@ ghost use mathlib.Core.Path.{_≡_};
 ghost use Prim.Native.Nat.{_<_};
 ghost use lib.ListN.{length};
 ghost use Rattle.words.specs.Tables.{Lent};
-ghost use Rattle.first_token.specs.First.{classOf, returnAt, wordAt, numberAt, stringAt, first};
-
-// What a first byte says.
-pub enum Class {
-    Blank,
-    One(TokenKind),
-    Return,
-    Word,
-    Number,
-    Quote,
-    Other,
-}
+ghost use Rattle.first_token.specs.First.{returnAt, wordAt, numberAt, stringAt, first};
 
 // What stands at the start of a text: a blank, a token and its length, or a string of row 3 or 4.
 pub enum Found {
@@ -23,28 +12,6 @@ pub enum Found {
     Token(TokenKind, usize),
     LoneQuote,
     CutCharacter,
-}
-
-// The first byte alone decides the class.
-fn class_of(b: u8) -> Class
-    ensures { λ r. ⌜ r ≡ classOf b ⌝ }
-{
-    match b {
-        b' ' | b'\t' => Class::Blank,
-        b',' => Class::One(TokenKind::Comma),
-        b'{' => Class::One(TokenKind::OpenBrace),
-        b'}' => Class::One(TokenKind::CloseBrace),
-        b':' => Class::One(TokenKind::Colon),
-        b'\n' => Class::One(TokenKind::Newline),
-        b'\r' => Class::Return,
-        b'"' => Class::Quote,
-        b'-' => Class::Number,
-        b'_' | b'$' => Class::Word,
-        b'0'..=b'9' => Class::Number,
-        b'a'..=b'z' => Class::Word,
-        b'A'..=b'Z' => Class::Word,
-        _ => Class::Other,
-    }
 }
 
 fn return_at(s: &[u8]) -> Found
@@ -94,20 +61,24 @@ fn string_at(s: &[u8]) -> Found
     Found::CutCharacter
 }
 
-// What a text that is not empty starts with.
+// What a text that is not empty starts with: the first byte alone decides.
 pub fn first_token(s: &[u8], letters: &[u8], starts: &[usize], firsts: &[usize]) -> Found
     requires { ⌜ Lent (now letters) (now starts) (now firsts) ⌝ }
     requires { ⌜ 0 < length (now s) ⌝ }
     ensures { λ r. ⌜ r ≡ first (now (s .entry)) ⌝ }
 {
-    let class = class_of(s[0]);
-    match class {
-        Class::Blank => Found::Blank,
-        Class::One(k) => Found::Token(k, 1),
-        Class::Return => return_at(s),
-        Class::Word => word_at(s, letters, starts, firsts),
-        Class::Number => number_at(s),
-        Class::Quote => string_at(s),
-        Class::Other => Found::Token(TokenKind::Unknown, s.len()),
+    let b = s[0];
+    match b {
+        b' ' | b'\t' => Found::Blank,
+        b',' => Found::Token(TokenKind::Comma, 1),
+        b'{' => Found::Token(TokenKind::OpenBrace, 1),
+        b'}' => Found::Token(TokenKind::CloseBrace, 1),
+        b':' => Found::Token(TokenKind::Colon, 1),
+        b'\n' => Found::Token(TokenKind::Newline, 1),
+        b'\r' => return_at(s),
+        b'a'..=b'z' | b'A'..=b'Z' | b'_' | b'$' => word_at(s, letters, starts, firsts),
+        b'0'..=b'9' | b'-' => number_at(s),
+        b'"' => string_at(s),
+        _ => Found::Token(TokenKind::Unknown, s.len()),
     }
 }

@@ -18,7 +18,7 @@ use Rattle.words.specs.Spellings.{bytes, spellings}
 use Rattle.words.specs.Words.{indexIn, lower, sameWord}
 use Rattle.numbers.specs.Integers.{isNatural, natural, upTo, valueFrom, withByte}
 use Rattle.keywords.specs.Keywords.{keywordWords, named, numberAfter, wordKind}
-use Rattle.first_token.specs.First.{classOf, numberAt, returnAt, stringAt, wordAt}
+use Rattle.first_token.specs.First.{firstOf, numberAt, returnAt, stringAt, wordAt}
 use Rattle.lexer.specs.Lexing.{counted, lexFrom, lexText}
 
 abbrev tok : TokenKind → ℕ → ℕ → Token
@@ -78,7 +78,7 @@ cases =
 
 bench : map (λ (c : Case). lexText (c .text) 12) cases ≡ map (λ (c : Case). c .lexed) cases
 unfolding cases bytes spellings indexIn lower sameWord isNatural keywordWords named natural numberAfter upTo valueFrom withByte wordKind charIn starts validFrom
-    isWordByte runOf exponentEnd pointEnd powerEnd signEnd untilStop classOf numberAt returnAt stringAt wordAt lexFrom lexText
+    isWordByte runOf exponentEnd pointEnd powerEnd signEnd untilStop firstOf numberAt returnAt stringAt wordAt lexFrom lexText
 bench = refl
 
 -- ---- the nested texts: n times With, a line feed only after each closing brace
@@ -93,7 +93,7 @@ closed (suc n) = 125 ∷ 10 ∷ closed n
 
 -- 64 and 65 of them: two tokens to open and two to close each
 nested : map (λ (n : ℕ). counted (lexText (opened n ++ closed n) 65536)) (64 ∷ 65 ∷ []) ≡ accepted 256 ∷ accepted 260 ∷ []
-unfolding bytes spellings indexIn lower sameWord isNatural keywordWords named natural numberAfter upTo valueFrom withByte wordKind charIn starts validFrom isWordByte runOf exponentEnd pointEnd powerEnd signEnd untilStop classOf numberAt returnAt stringAt wordAt lexFrom lexText
+unfolding bytes spellings indexIn lower sameWord isNatural keywordWords named natural numberAfter upTo valueFrom withByte wordKind charIn starts validFrom isWordByte runOf exponentEnd pointEnd powerEnd signEnd untilStop firstOf numberAt returnAt stringAt wordAt lexFrom lexText
 nested = refl
 
 -- a byte more than 65,536
