@@ -3,10 +3,11 @@ use mathlib.Core.Path.{_≡_, refl, sym, ap, _∙_, subst}
 use mathlib.Core.List.{List, [], _∷_}
 use Prim.Native.Nat.{ℕ, _+_, _*_, _-_, _≤_, _<_}
 use native.Mathlib.Omega.{arith}
+use denote.Enum.Declared.{tagOf}
 use lib.ListN.{length}
+use types.Run.{OneOf, miss}
 use mir.Syntax.{w64}
 use mir.Val.{Fits}
-use Rattle.tokens.specs.declared.Token.{Token}
 use Rattle.lexemes.specs.Events.{try, catch}
 use Rattle.machine.specs.Machine.{Nesting, Handlers, no-handlers, after-try, after-catch, Symbol, opens, targets, level, item, ended, target-out, puts}
 use Rattle.operands.specs.declared.At.{At}
@@ -15,12 +16,13 @@ use Rattle.operands.specs.declared.Step.the-variants.{To, Bad}
 use Rattle.operands.specs.Log.{Log, log, emit}
 use Rattle.operands.specs.Contract.{judge, outcome, Fine, Onward, Ahead}
 use Rattle.operands.proofs.Runs.{Refuses, further-on, refusal}
+use Rattle.parser.proofs.Handler.{the-type as handler-type}
 use Rattle.parser.specs.declared.CatchTarget.{CatchTarget}
 use Rattle.parser.specs.declared.CatchTarget.the-variants as T
 use Rattle.parser.specs.declared.Handler.{Handler}
 use Rattle.parser.specs.declared.Handler.the-variants as H
 use Rattle.parser.specs.declared.BlockKind.the-variants as B
-use Rattle.parser.specs.Parsing.{ReadsIn, at-item, EndRead, NoNewlineSeen, ItemSeen, CatchSeen, Finally-at, FinallySeen, HandlerRead, targetOf, pastTarget, moveTo, TargetBefore, TargetRead, GiveAsked, givenLog, givenAt, GiveRead, BlockRead, LastBlockRead, TryRead, HandlersRead, LastRead}
+use Rattle.parser.specs.Parsing.{ReadsIn, at-item, EndRead, NoNewlineSeen, ItemSeen, CatchSeen, Finally-at, FinallySeen, HandlerRead, targetOf, pastTarget, moveTo, TargetBefore, TargetRead, GiveAsked, givenLog, givenAt, GiveRead, BlockRead, LastBlockRead, TryRead, HandlersRead, NoCatch, LastRead}
 use Rattle.parser.proofs.BlockLaws.{in-on, in-to}
 
 -- ---- a Try
@@ -120,21 +122,30 @@ module _ (text s l : List ℕ) (c : At) (room : ℕ) (x : Handler) (v : HandlerR
       let w = item-seen text s c x q v u in
       rw y (record { says = λ e σ. w .says h e σ room (log l c); ahead = record { from = omega (arith, w .from); fine = moved-fine text s c (moveTo c q) q f (w .from) (w .to) refl } })
 
-pub handlers-end : (text s l : List ℕ) (c : At) (a : CatchTarget) (room : ℕ) (x : Handler) (r : Step) → HandlerRead text s c x → x ≡ H.NoNewline → EndRead text s c r → HandlersRead a text s l l c room r
-handlers-end text s l c a room x r v u w = ends-here text s l c room x v (after-try (targetOf text s a)) r u w
+-- ---- what ends a Try
 
-pub handlers-item : (text s l : List ℕ) (c d : At) (a : CatchTarget) (room : ℕ) (x : Handler) (q : ℕ) → Fine text s c → HandlerRead text s c x → x ≡ H.Item q → d ≡ moveTo c q → HandlersRead a text s l l c room (To d)
-handlers-item text s l c d a room x q f v u y = goes-on text s l c room x v (after-try (targetOf text s a)) d q f u y
+module _ (text s l : List ℕ) (c : At) (room : ℕ) (x : Handler) (v : HandlerRead text s c x) where
+  pub last-end : (r : Step) → x ≡ H.NoNewline → EndRead text s c r → LastRead x text s l l c room r
+  last-end r u w = record { behind-catch = ends-here text s l c room x v after-catch r u w; behind-try = λ n o. ends-here text s l c room x v (after-try o) r u w }
 
-pub last-end : (text s l : List ℕ) (c : At) (room : ℕ) (x : Handler) (r : Step) → HandlerRead text s c x → x ≡ H.NoNewline → EndRead text s c r → LastRead text s l l c room r
-last-end text s l c room x r v u w = ends-here text s l c room x v after-catch r u w
+  pub last-item : (d : At) (q : ℕ) → Fine text s c → x ≡ H.Item q → d ≡ moveTo c q → LastRead x text s l l c room (To d)
+  last-item d q f u y = record { behind-catch = goes-on text s l c room x v after-catch d q f u y; behind-try = λ n o. goes-on text s l c room x v (after-try o) d q f u y }
 
-pub last-item : (text s l : List ℕ) (c d : At) (room : ℕ) (x : Handler) (q : ℕ) → Fine text s c → HandlerRead text s c x → x ≡ H.Item q → d ≡ moveTo c q → LastRead text s l l c room (To d)
-last-item text s l c d room x q f v u y = goes-on text s l c room x v after-catch d q f u y
+  pub last-catch : (q : ℕ) → x ≡ H.Catch q → LastRead x text s l l c room (Bad q)
+  unfolding outcome Ahead
+  last-catch q u =
+      let w = catch-seen text s c x q v u in
+      record { behind-catch = record { says = λ e σ. w .again e σ room (log l c); ahead = omega (arith, w .to) }; behind-try = λ n o. absurd (subst NoCatch u n) }
 
-pub last-catch : (text s l : List ℕ) (c : At) (room : ℕ) (x : Handler) (q : ℕ) → HandlerRead text s c x → x ≡ H.Catch q → LastRead text s l l c room (Bad q)
-unfolding outcome Ahead
-last-catch text s l c room x q v u = let w = catch-seen text s c x q v u in record { says = λ e σ. w .again e σ room (log l c); ahead = omega (arith, w .to) }
+-- and where no catch block follows a try block, its target is dropped
+pub try-ends : (text s l m : List ℕ) (c : At) (a : CatchTarget) (room : ℕ) (x : Handler) (r : Step) → OneOf (0 ∷ 1 ∷ 3 ∷ []) (tagOf handler-type x) → LastRead x text s l m c room r → HandlersRead a text s l m c room r
+try-ends text s l m c a room x r o v = v .behind-try (no-catch x o) (targetOf text s a)
+  where
+    no-catch : (y : Handler) → OneOf (0 ∷ 1 ∷ 3 ∷ []) (tagOf handler-type y) → NoCatch y
+    no-catch H.NoNewline o = tt
+    no-catch (H.Item q) o = tt
+    no-catch (H.Catch q) o = absurd (miss (0 ∷ 1 ∷ 3 ∷ []) 2 tt o)
+    no-catch (H.Finally q) o = tt
 
 -- the place behind a handler's word is a number
 pub catch-next : (text s : List ℕ) (c : At) (x : Handler) (q : ℕ) → Fine text s c → HandlerRead text s c x → x ≡ H.Catch q → Fits w64 (q + 1)
@@ -146,7 +157,7 @@ finally-next text s c x q f v u = omega (arith, finally-seen text s c x q v u .t
 pub finally-fine : (text s : List ℕ) (c d : At) (x : Handler) (q : ℕ) → Fine text s c → HandlerRead text s c x → x ≡ H.Finally q → d ≡ moveTo c (q + 1) → Fine text s d
 finally-fine text s c d x q f v u e = let w = finally-seen text s c x q v u in moved-fine text s c d (q + 1) f (omega (arith, w .from)) (omega (arith, w .to)) e
 
-pub finally-less : (text s : List ℕ) (c d : At) (x : Handler) (q t : ℕ) → HandlerRead text s c x → x ≡ H.Finally q → d ≡ moveTo c (q + 1) → 4 * (length s - c .at) + 1 ≡ t → 4 * (length s - d .at) + 1 < t
+pub finally-less : (text s : List ℕ) (c d : At) (x : Handler) (q t : ℕ) → HandlerRead text s c x → x ≡ H.Finally q → d ≡ moveTo c (q + 1) → 4 * (length s - c .at) ≡ t → 4 * (length s - d .at) + 1 < t
 finally-less text s c d x q t v u e m =
     let w = finally-seen text s c x q v u in
     let y : d .at ≡ q + 1 = ap (λ (z : At). z .at) e in
@@ -161,16 +172,16 @@ finally-block text s l m c d room q h r f i v y w =
 finally-from : (text s : List ℕ) (c d : At) (x : Handler) (q : ℕ) → HandlerRead text s c x → x ≡ H.Finally q → d ≡ moveTo c (q + 1) → c .at ≤ d .at
 finally-from text s c d x q v u e = rw e (omega (arith, finally-seen text s c x q v u .from))
 
-pub handlers-finally : (text s l m : List ℕ) (c d : At) (a : CatchTarget) (room q : ℕ) (x : Handler) (r : Step) → Fine text s c → HandlerRead text s c x → x ≡ H.Finally q → d ≡ moveTo c (q + 1) →
-    LastBlockRead B.Finally text s l m d room r → HandlersRead a text s l m c room r
-handlers-finally text s l m c d a room q x r f v u y w =
-    finally-block text s l m c d room q (after-try (targetOf text s a)) r (finally-fine text s c d x q f v u y) (finally-from text s c d x q v u y)
-    (finally-seen text s c x q v u .says-try (targetOf text s a)) y w
-
 pub last-finally : (text s l m : List ℕ) (c d : At) (room q : ℕ) (x : Handler) (r : Step) → Fine text s c → HandlerRead text s c x → x ≡ H.Finally q → d ≡ moveTo c (q + 1) →
-    LastBlockRead B.Finally text s l m d room r → LastRead text s l m c room r
+    LastBlockRead B.Finally text s l m d room r → LastRead x text s l m c room r
 last-finally text s l m c d room q x r f v u y w =
-    finally-block text s l m c d room q after-catch r (finally-fine text s c d x q f v u y) (finally-from text s c d x q v u y) (finally-seen text s c x q v u .says-catch) y w
+    let z = finally-seen text s c x q v u in
+    let g = finally-fine text s c d x q f v u y in
+    let i = finally-from text s c d x q v u y in
+    record {
+      behind-catch = finally-block text s l m c d room q after-catch r g i (z .says-catch) y w;
+      behind-try = λ n o. finally-block text s l m c d room q (after-try o) r g i (z .says-try o) y w;
+    }
 
 -- ---- a catch block
 
@@ -236,13 +247,13 @@ module _ (text s l m : List ℕ) (c d g : At) (a : CatchTarget) (x : Handler) (q
           ahead = further-on text s c g r catch-on (b .ahead);
         }
 
-    pub caught-less : (p : At) (t : ℕ) → r ≡ To p → 4 * (length s - c .at) + 1 ≡ t → 4 * (length s - p .at) + 1 < t
+    pub caught-less : (p : At) (t : ℕ) → r ≡ To p → 4 * (length s - c .at) + 1 ≡ t → 4 * (length s - p .at) < t
     caught-less p t y h = omega (arith, catch-at, seen .from, seen .to, in-on text s m n g p room r b y .from)
 
-    pub catch-ok : (p : At) (k : List ℕ) (y : Step) → r ≡ To p → LastRead text s n k p room y → HandlersRead a text s l k c room y
+    pub catch-ok : (p : At) (next : Handler) (k : List ℕ) (y : Step) → r ≡ To p → LastRead next text s n k p room y → HandlersRead a text s l k c room y
     unfolding outcome
-    catch-ok p k y h j =
+    catch-ok p next k y h j =
         record {
-          says = λ z σ. catch-starts room z σ ∙ in-to text s m n g p room r b h .says z (level z (ended after-catch) ∷ σ) ∙ j .says z σ;
-          ahead = further-on text s c g y catch-on (further-on text s g p y (in-on text s m n g p room r b h) (j .ahead));
+          says = λ z σ. catch-starts room z σ ∙ in-to text s m n g p room r b h .says z (level z (ended after-catch) ∷ σ) ∙ j .behind-catch .says z σ;
+          ahead = further-on text s c g y catch-on (further-on text s g p y (in-on text s m n g p room r b h) (j .behind-catch .ahead));
         }

@@ -155,12 +155,19 @@ LastBlockRead k text s a b c d r = ReadsIn (λ e. opens (partOf k) ∷ level e (
 abbrev pub TryRead : List ℕ → List ℕ → List ℕ → List ℕ → At → ℕ → Step → Type 0
 TryRead text s a b c d r = ReadsIn (λ e. targets e ∷ []) at-item text s a b c d r
 
--- behind a try block, and behind a catch block
 abbrev pub HandlersRead : CatchTarget → List ℕ → List ℕ → List ℕ → List ℕ → At → ℕ → Step → Type 0
 HandlersRead t text s a b c d r = ReadsIn (λ e. level e (ended (after-try (targetOf text s t))) ∷ []) at-item text s a b c d r
 
-abbrev pub LastRead : List ℕ → List ℕ → List ℕ → List ℕ → At → ℕ → Step → Type 0
-LastRead text s a b c d r = ReadsIn (λ e. level e (ended after-catch) ∷ []) at-item text s a b c d r
+abbrev pub NoCatch : Handler → Type 0
+NoCatch H.NoNewline = Unit {0}
+NoCatch (H.Item q) = Unit {0}
+NoCatch (H.Catch q) = ⊥
+NoCatch (H.Finally q) = Unit {0}
+
+-- with x seen, behind a catch block, or behind a try block that no catch block follows
+pub record LastRead (x : Handler) (text s a b : List ℕ) (c : At) (d : ℕ) (r : Step) : Type 0 where
+  pub behind-catch : ReadsIn (λ e. level e (ended after-catch) ∷ []) at-item text s a b c d r
+  pub behind-try : NoCatch x → (o : Option Lexeme) → ReadsIn (λ e. level e (ended (after-try o)) ∷ []) at-item text s a b c d r
 
 abbrev pub BlocksRead : Shape → List ℕ → List ℕ → List ℕ → List ℕ → At → ℕ → Step → Type 0
 BlocksRead w text s a b c d r = ReadsIn (left (planOf w)) at-item text s a b c d r

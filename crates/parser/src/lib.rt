@@ -350,38 +350,32 @@ fn try_catch(text: &[u8], s: &[u64], events: &mut [u64], c: At, room: usize) -> 
     handlers(text, s, events, p, room, a)
 }
 
-// What follows the try block: a catch block, to which the target belongs, and a finally block.
+// What follows the try block: a catch block, to which the target belongs, and what follows that.
 fn handlers(text: &[u8], s: &[u64], events: &mut [u64], c: At, room: usize, a: CatchTarget) -> Step
     requires { ⌜ Fine (now text) (now s) c ⌝ }
     requires { ⌜ TargetBefore c a ⌝ }
     ensures { λ r. ⌜ HandlersRead a (now (text .entry)) (now (s .entry)) (now (events .entry)) (now (events .exit)) c room r ⌝ }
 {
     let x = next_handler(text, s, c);
-    match x {
-        Handler::NoNewline => end_of_action(text, s, c),
-        Handler::Item(q) => Step::To(move_to(c, q)),
-        Handler::Finally(q) => {
-            let e = move_to(c, q + 1);
-            last_block(text, s, events, e, room, BlockKind::Finally)
-        }
-        Handler::Catch(q) => {
-            let e = move_to(c, q + 1);
-            let f = give_target(events, e, a);
-            let y = block(text, s, events, f, room, BlockKind::Catch);
-            let Step::To(p) = y else {
-                return y;
-            };
-            last_handler(text, s, events, p, room)
-        }
-    }
+    let Handler::Catch(q) = x else {
+        return last_handler(text, s, events, c, room, x);
+    };
+    let e = move_to(c, q + 1);
+    let f = give_target(events, e, a);
+    let y = block(text, s, events, f, room, BlockKind::Catch);
+    let Step::To(p) = y else {
+        return y;
+    };
+    let z = next_handler(text, s, p);
+    last_handler(text, s, events, p, room, z)
 }
 
-// What follows the catch block.
-fn last_handler(text: &[u8], s: &[u64], events: &mut [u64], c: At, room: usize) -> Step
+// A finally block and the action's end, or the end alone. A catch block cannot follow any more.
+fn last_handler(text: &[u8], s: &[u64], events: &mut [u64], c: At, room: usize, x: Handler) -> Step
     requires { ⌜ Fine (now text) (now s) c ⌝ }
-    ensures { λ r. ⌜ LastRead (now (text .entry)) (now (s .entry)) (now (events .entry)) (now (events .exit)) c room r ⌝ }
+    requires { ⌜ HandlerRead (now text) (now s) c x ⌝ }
+    ensures { λ r. ⌜ LastRead x (now (text .entry)) (now (s .entry)) (now (events .entry)) (now (events .exit)) c room r ⌝ }
 {
-    let x = next_handler(text, s, c);
     match x {
         Handler::NoNewline => end_of_action(text, s, c),
         Handler::Item(q) => Step::To(move_to(c, q)),

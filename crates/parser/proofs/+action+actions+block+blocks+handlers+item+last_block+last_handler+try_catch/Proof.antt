@@ -9,7 +9,7 @@ use Prim.Native.Nat.{ℕ, _+_, _*_, _-_, _<_}
 use borrow.Fn.Kinds.{In}
 use borrow.Fn.PlainCycle.{Measures, is, falls, and}
 use Rattle.parser.proofs.BlockLaws.{block-bad, block-deep, block-goes, blocks-function, blocks-function-2, blocks-none, blocks-try, blocks-with, in-fine, last-block-bad, last-block-ok, opened-fine, opened-less}
-use Rattle.parser.proofs.TryLaws.{catch-asked, catch-bad, catch-fine, catch-less, catch-next, catch-ok, caught-less, finally-fine, finally-less, finally-next, handlers-end, handlers-finally, handlers-item, last-catch, last-end, last-finally, last-item, tried-before, tried-less, try-bad, try-fine, try-less, try-ok}
+use Rattle.parser.proofs.TryLaws.{catch-asked, catch-bad, catch-fine, catch-less, catch-next, catch-ok, caught-less, finally-fine, finally-less, finally-next, last-catch, last-end, last-finally, last-item, tried-before, tried-less, try-bad, try-ends, try-fine, try-less, try-ok}
 use Rattle.parser.proofs.LevelLaws.{Reaches, acted-fine, acted-less, action-not, action-whole, closing-not, item-label, item-less, item-newline, item-plain, label-there, level-close-bad, level-closes, level-fails, level-short, level-whole, number-fits, operands-bad, reach-less, reach-next, reach-start}
 use Rattle.parser.proofs.action.Reads as action
 use Rattle.parser.proofs.action.Kinds as action-kinds
@@ -83,7 +83,7 @@ abbrev μ-last-block : Measures 3 last-block-kinds.ps ℕ
 μ-last-block κs a = 4 * (length (a .1 .0 .now) - a .1 .1 .1 .0 .at) + 1
 
 abbrev μ-last-handler : Measures 3 last-handler-kinds.ps ℕ
-μ-last-handler κs a = 4 * (length (a .1 .0 .now) - a .1 .1 .1 .0 .at) + 1
+μ-last-handler κs a = 4 * (length (a .1 .0 .now) - a .1 .1 .1 .0 .at)
 
 abbrev μ-try-catch : Measures 3 try-catch-kinds.ps ℕ
 μ-try-catch κs a = 4 * (length (a .1 .0 .now) - a .1 .1 .1 .0 .at) + 2
@@ -165,7 +165,7 @@ abbrev blocks-claims : ℕ → blocks-lts.Claims
 blocks-claims t = (last-block-below t, last-block.Post, try-catch-below t, try-catch.Post, end-of-action-reads.Asked, end-of-action-reads.Learnt)
 
 abbrev handlers-claims : ℕ → handlers-lts.Claims
-handlers-claims t = (next-handler-reads.Asked, next-handler-reads.Learnt, end-of-action-reads.Asked, end-of-action-reads.Learnt, move-to-reads.Asked, move-to-reads.Learnt, last-block-below t, last-block.Post, give-target-reads.Asked, give-target-reads.Learnt, block-below t, block.Post, last-handler-below t, last-handler.Post)
+handlers-claims t = (next-handler-reads.Asked, next-handler-reads.Learnt, last-handler-below t, last-handler.Post, move-to-reads.Asked, move-to-reads.Learnt, give-target-reads.Asked, give-target-reads.Learnt, block-below t, block.Post)
 
 abbrev item-claims : ℕ → item-lts.Claims
 item-claims t = (kind-at-reads.Asked, kind-at-reads.Learnt, passed-reads.Asked, passed-reads.Learnt, label-reads.Asked, label-reads.Learnt, action-below t, action.Post)
@@ -174,7 +174,7 @@ abbrev last-block-claims : ℕ → last-block-lts.Claims
 last-block-claims t = (block-below t, block.Post, end-of-action-reads.Asked, end-of-action-reads.Learnt)
 
 abbrev last-handler-claims : ℕ → last-handler-lts.Claims
-last-handler-claims t = (next-handler-reads.Asked, next-handler-reads.Learnt, end-of-action-reads.Asked, end-of-action-reads.Learnt, move-to-reads.Asked, move-to-reads.Learnt, last-block-below t, last-block.Post)
+last-handler-claims t = (end-of-action-reads.Asked, end-of-action-reads.Learnt, move-to-reads.Asked, move-to-reads.Learnt, last-block-below t, last-block.Post)
 
 abbrev try-catch-claims : ℕ → try-catch-lts.Claims
 try-catch-claims t = (try-target-reads.Asked, try-target-reads.Learnt, past-target-reads.Asked, past-target-reads.Learnt, block-below t, block.Post, handlers-below t, handlers.Post)
@@ -273,14 +273,9 @@ pub +action+actions+block+blocks+handlers+item+last-block+last-handler+try-catch
     (λ t. handlers-lts.spec (handlers-claims t) (handlers-at t) handlers.Post
     (λ c κs. search needs)
     (λ c. search needs)
-    (λ c κs. search needs)
-    (λ c. search needs)
-    (λ c κs. search needs)
-    (λ c. search needs)
-    (λ c. search finally-next)
-    (λ c κs. search needs)
-    (λ c κs. (search finally-less, search finally-fine))
-    (λ c. search needs)
+    (λ c κs. (omega arith, (search needs, search needs)))
+    (λ c. omega arith)
+    (λ c. search try-ends)
     (λ c. search catch-next)
     (λ c κs. search needs)
     (λ c κs. search catch-asked)
@@ -288,13 +283,10 @@ pub +action+actions+block+blocks+handlers+item+last-block+last-handler+try-catch
     (λ c. search needs)
     (λ c. omega arith)
     (λ c. search catch-bad)
-    (λ c κs. (caught-less _ _ _ _ _ _ _ _ _ _ (c .before .before .before .before .before .before .before .before .before .before .before .before .before .before .before .before .before .before .before .before .pre .1 .0) (c .before .before .before .before .before .before .before .before .before .before .before .before .before .before .before .before .next-handler .ensures) (c .before .before .before .before .before .before .before .before .before .before .before .before .before .before .x3 .given .1) (c .before .before .before .before .before .before .before .before .before .before .before .before .move-to3 .ensures) (c .before .before .before .before .before .before .before .before .before .before .give-target .ensures) _ _ _ (c .before .before .before .before .before .before .block .ensures) _ _ (c .before .before .y .given .1) (c .before .before .before .before .before .before .before .before .before .before .before .before .before .before .before .before .before .before .before .before .pre .0), search (in-fine, c .before .before .y .given, c .before .before .before .before .before .before .block .ensures)))
-    (λ c. search handlers-end)
-    (λ c. search handlers-item)
+    (λ c κs. search (in-fine, c .before .y .given, c .before .before .before .before .before .block .ensures))
+    (λ c κs. (caught-less _ _ _ _ _ _ _ _ _ _ (c .before .before .before .before .before .before .before .before .before .before .before .before .before .before .before .before .before .before .before .before .before .pre .1 .0) (c .before .before .before .before .before .before .before .before .before .before .before .before .before .before .before .before .before .next-handler .ensures) (c .before .before .before .before .before .before .before .before .before .before .before .before .before .before .before .x .given .1) (c .before .before .before .before .before .before .before .before .before .before .before .before .before .move-to .ensures) (c .before .before .before .before .before .before .before .before .before .before .before .give-target .ensures) _ _ _ (c .before .before .before .before .before .before .before .block .ensures) _ _ (c .before .before .before .y .given .1) (c .before .before .before .before .before .before .before .before .before .before .before .before .before .before .before .before .before .before .before .before .before .pre .0), (search (in-fine, c .before .before .before .y .given, c .before .before .before .before .before .before .before .block .ensures), c .before .next-handler2 .ensures)))
     (λ c. omega arith)
-    (λ c. search handlers-finally)
-    (λ c. omega arith)
-    (λ c. catch-ok _ _ _ _ _ _ _ _ _ _ (c .before .before .before .before .before .before .before .before .before .before .before .before .before .before .before .before .before .before .before .before .before .before .before .pre .1 .0) (c .before .before .before .before .before .before .before .before .before .before .before .before .before .before .before .before .before .before .before .next-handler .ensures) (c .before .before .before .before .before .before .before .before .before .before .before .before .before .before .before .before .before .x3 .given .1) (c .before .before .before .before .before .before .before .before .before .before .before .before .before .before .before .move-to3 .ensures) (c .before .before .before .before .before .before .before .before .before .before .before .before .before .give-target .ensures) _ _ _ (c .before .before .before .before .before .before .before .before .before .block .ensures) _ _ _ (c .before .before .before .before .before .y .given .1) (c .before .before .last-handler .ensures)))
+    (λ c. catch-ok _ _ _ _ _ _ _ _ _ _ (c .before .before .before .before .before .before .before .before .before .before .before .before .before .before .before .before .before .before .before .before .before .before .before .before .pre .1 .0) (c .before .before .before .before .before .before .before .before .before .before .before .before .before .before .before .before .before .before .before .before .next-handler .ensures) (c .before .before .before .before .before .before .before .before .before .before .before .before .before .before .before .before .before .before .x .given .1) (c .before .before .before .before .before .before .before .before .before .before .before .before .before .before .before .before .move-to .ensures) (c .before .before .before .before .before .before .before .before .before .before .before .before .before .before .give-target .ensures) _ _ _ (c .before .before .before .before .before .before .before .before .before .before .block .ensures) _ _ _ _ (c .before .before .before .before .before .before .y .given .1) (c .before .before .last-handler2 .ensures)))
     -- ---- item
     (λ t. item-lts.spec (item-claims t) (item-at t) item.Post
     (λ c κs. search needs)
@@ -317,7 +309,6 @@ pub +action+actions+block+blocks+handlers+item+last-block+last-handler+try-catch
     (λ c. search last-block-ok))
     -- ---- last_handler
     (λ t. last-handler-lts.spec (last-handler-claims t) (last-handler-at t) last-handler.Post
-    (λ c κs. search needs)
     (λ c. search needs)
     (λ c κs. search needs)
     (λ c. search needs)
