@@ -1,5 +1,6 @@
 //! Speed of two builds of the library, by turns: compare/versus.
 
+mod subjects;
 #[allow(dead_code)]
 mod texts;
 
@@ -70,31 +71,6 @@ fn reading(read: Read, text: &[u8], tables: &mut [Vec<u64>; 5], seconds: f64) ->
     })
 }
 
-/// 63 Try, each with a target, around one Push of many operands.
-fn nested_tries() -> Vec<u8> {
-    let mut text = "Try register1 {\n".repeat(63);
-    text.push_str("Push 1");
-    text.push_str(&",1".repeat(30_000));
-    text.push('\n');
-    text.push_str(&"}\ncatch {}\n".repeat(63));
-    text.into_bytes()
-}
-
-fn subjects() -> Vec<(&'static str, Vec<u8>)> {
-    vec![
-        ("an action alone", b"Add\n".to_vec()),
-        ("ordinary patch, 1 KB", texts::ordinary(1024, 1)),
-        ("ordinary patch, 4 KB", texts::ordinary(4096, 1)),
-        ("ordinary patch, 8 KB", texts::ordinary(8192, 1)),
-        ("ordinary patch, 16 KB", texts::ordinary(16_384, 1)),
-        ("ordinary patch, 64 KB", texts::ordinary(65_536, 1)),
-        ("labels, all distinct", (0..8000).map(|i| format!("loc{i:04x}:")).collect::<String>().into_bytes()),
-        ("labels, all the same", "a:".repeat(32_768).into_bytes()),
-        ("a Push of 30,000 values", format!("Push 1{}\n", ",1".repeat(29_999)).into_bytes()),
-        ("63 nested Try around it", nested_tries()),
-    ]
-}
-
 /// The least of each side, and the median over the rounds of the new by the old: the two of a round were measured one after the other.
 fn told(rounds: &[(f64, f64)]) -> (f64, f64, f64) {
     let least = |part: fn(&(f64, f64)) -> f64| rounds.iter().map(part).fold(f64::INFINITY, f64::min);
@@ -108,7 +84,7 @@ fn main() {
     println!("ns a byte: old, new, new by old in a round\n");
     println!("| text                      | bytes |  read |   new | round |   lex |   new | round |");
     println!("|---------------------------|------:|------:|------:|------:|------:|------:|------:|");
-    for (what, text) in subjects() {
+    for (what, text) in subjects::subjects() {
         let mut tables = [(); 5].map(|_| vec![0u64; text.len() + 1]);
         let (mut read, mut lex) = (Vec::new(), Vec::new());
         for round in 0..ROUNDS {
