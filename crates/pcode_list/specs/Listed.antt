@@ -8,8 +8,6 @@ use Rattle.answers.specs.declared.Refusal.the-variants as A
 use Rattle.handover.specs.declared.Reading.{Reading}
 use Rattle.handover.specs.declared.Reading.the-variants as R
 use Rattle.handover.specs.Reading.{Tables, ReadsWords}
-use Rattle.pcode_list.specs.declared.Input.{Input}
-use Rattle.pcode_list.specs.declared.Input.the-variants as I
 
 -- the tables were never too short: no refusal is 5 or 8
 abbrev pub NeverShort : Reading → Type 0
@@ -20,8 +18,3 @@ NeverShort (R.Refused r) = (¬ (numberOf r ≡ 5)) × (¬ (numberOf r ≡ 8))
 pub record Listed (text : List ℕ) (x y : Tables ℕ) (r : Reading) : Type 0 where
   pub long : 4096 < length text → (r ≡ R.Refused A.TooLong) × (y ≡ x)
   pub reads : length text ≤ 4096 → ReadsWords text x y r
-
--- as many bytes as the buffer has, at most
-abbrev pub Within : List ℕ → Input → Type 0
-Within buf (I.Bytes n) = n ≤ length buf
-Within buf I.Failed = Unit {0}

@@ -1,34 +1,11 @@
-// Program `pcode-list`: lists the p-code text on standard input, as document 01 says.
+// Program `pcode-list`: lists the p-code text on standard input, as document 01 says. The script pcode-list at the root has the options and
+// makes the exit status.
 use answers::Refusal;
 use as2_pcode::Reading;
+use files::Input;
 use libc::STDIN_FILENO;
 ghost use Rattle.handover.specs.Reading.{lent};
-ghost use Rattle.pcode_list.specs.Listed.{Listed, NeverShort, Within};
-
-enum Input {
-    Bytes(usize),
-    // a read failed
-    Failed,
-}
-
-// The first bytes of standard input, as many as the buffer holds.
-fn read_input(buf: &mut [u8]) -> Input
-    ensures { λ r. ⌜ Within (now (buf .exit)) r ⌝ }
-{
-    let mut n = 0;
-    while n < buf.len() {
-        let got = libc::read(STDIN_FILENO, &mut buf[n..]);
-        if got < 0 {
-            return Input::Failed;
-        }
-        let more = io::count(got, &buf[n..]);
-        if more == 0 {
-            return Input::Bytes(n);
-        }
-        n += more;
-    }
-    Input::Bytes(n)
-}
+ghost use Rattle.pcode_list.specs.Listed.{Listed, NeverShort};
 
 // Reads a text of at most 4,096 bytes into tables that hold any such text.
 fn read_listed(
@@ -60,6 +37,14 @@ fn print_listed(
     listing::print_reading(text, tokens, actions, operands, labels, r);
 }
 
+// 0: listed; 1: refused.
+fn status_of(r: Reading) -> u64 {
+    match r {
+        Reading::Read(_) => 0,
+        Reading::Refused(_) => 1,
+    }
+}
+
 fn list(text: &[u8]) {
     let mut tokens = [0u64; 4096];
     let mut actions = [0u64; 4097];
@@ -75,13 +60,19 @@ fn list(text: &[u8]) {
         &mut labels,
     );
     print_listed(text, &tokens, &actions, &operands, &labels, r);
+    files::tell_status(status_of(r));
+}
+
+fn fail() {
+    os::fail(b"pcode-list: standard input");
+    files::tell_status(2);
 }
 
 // A byte more than is listed tells that there are more.
 fn main() {
     let mut input = [0u8; 4097];
-    match read_input(&mut input) {
+    match files::read_input(STDIN_FILENO, &mut input) {
         Input::Bytes(n) => list(&input[..n]),
-        Input::Failed => os::fail(b"pcode-list: standard input"),
+        Input::Failed => fail(),
     }
 }

@@ -5,10 +5,10 @@ use Rattle.pcode_check.proofs.check_arguments.Statement.{statement}
 use Rattle.pcode_check.proofs.check_arguments.Tie as tie
 
 abbrev Inv-loop : tie.InvT-loop
-Inv-loop count refused₀ i₀ refused i = refused ≤ i
+Inv-loop count refused₀ failed₀ i₀ refused failed i = (refused ≤ i) × (failed ≤ i)
 
 abbrev μ-loop : tie.MeasureT-loop
-μ-loop count refused₀ i₀ refused i = count - i
+μ-loop count refused₀ failed₀ i₀ refused failed i = count - i
 
 pub check-arguments-spec : {M : Type 1} → statement M
 check-arguments-spec =
@@ -16,6 +16,9 @@ check-arguments-spec =
     (tie.spec
     Inv-loop
     μ-loop
+    (λ c. search needs)
+    (λ c κs. search needs)
+    (λ c κs. search needs)
     (λ c. search needs)
     (λ c κs. search needs)
     (λ c. search needs)

@@ -2,12 +2,12 @@
 use borrow.Author.Needs.{needs}
 use mathlib.Core.Path.{sym, subst}
 use lib.Seq.{length-take-le}
-use Rattle.pcode_list.specs.Listed.{Within}
+use Rattle.files.specs.Files.{Within}
 use Rattle.pcode_list.proofs.main.Statement.{statement}
 use Rattle.pcode_list.proofs.main.Tie as tie
 
 within : tie.Need-array-share-prefix-input
-within c = subst (Within (c .before .before .before .before .read-input .last .0)) (c .before .n .given .1) (c .before .before .before .before .read-input .ensures)
+within c = subst (Within (c .before .before .before .before .read-input .last .1 .0)) (c .before .n .given .1) (c .before .before .before .before .read-input .ensures)
 
 as-many : tie.Need-slice-aggregate-list
 as-many c = sym (length-take-le _ _ (within (c .before)))
@@ -22,7 +22,6 @@ main-spec =
     within
     as-many
     (λ c κs. search needs)
-    (λ c. search needs)
     (λ c. search needs)
     (λ c κs. search needs)
     (λ c. search needs)

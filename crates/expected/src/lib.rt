@@ -1,0 +1,307 @@
+// What was expected at the place of a refusal 6, in a sentence for the author of a patch.
+mod sentence;
+mod stands;
+
+use classes::count_at;
+use names::ActionName;
+use sentence::Sentence;
+use sentence::at_line_end;
+use sentence::print_sentence;
+use sentence::sentence_of;
+use shapes::Shape;
+use stands::Stands;
+use stands::stands_at;
+pub use stands::start_of;
+use tokens::TokenKind;
+ghost use Prim.Native.Nat.{_≤_};
+
+// What an operand must be, in the words of docs/FORMAT.md. Flag is one of the nine bools of a DefineFunction2, Parameter the name of a
+// function's parameter, Register the number before it.
+pub enum Wanted {
+    Nothing,
+    String,
+    Value,
+    Bool,
+    Flag,
+    U8,
+    U16,
+    Count,
+    Parameter,
+    Register,
+    Label,
+    Target,
+}
+
+fn only_first(number: usize, first: Wanted) -> Wanted {
+    if number == 0 { first } else { Wanted::Nothing }
+}
+
+fn two_then(number: usize, first: Wanted, then: Wanted) -> Wanted {
+    match number {
+        0 | 1 => first,
+        2 => then,
+        _ => Wanted::Nothing,
+    }
+}
+
+fn one_then(number: usize, first: Wanted, then: Wanted) -> Wanted {
+    match number {
+        0 => first,
+        1 => then,
+        _ => Wanted::Nothing,
+    }
+}
+
+// GotoFrame2: a bias follows where the first bool is true.
+fn wanted_of_frame(number: usize, given: usize) -> Wanted {
+    if given == 0 {
+        return two_then(number, Wanted::Bool, Wanted::Nothing);
+    }
+    two_then(number, Wanted::Bool, Wanted::U16)
+}
+
+// Of a function's parameters, that of an index.
+fn wanted_of_parameter(index: usize, count: usize, what: Wanted) -> Wanted {
+    if index < count { what } else { Wanted::Nothing }
+}
+
+// DefineFunction: a name, a count, as many parameters.
+fn wanted_of_function(number: usize, count: usize) -> Wanted {
+    match number {
+        0 => Wanted::String,
+        1 => Wanted::Count,
+        _ => wanted_of_parameter(number - 2, count, Wanted::Parameter),
+    }
+}
+
+// DefineFunction2: a name, a count, a number of registers, nine bools, as many pairs.
+fn wanted_of_function2(number: usize, count: usize) -> Wanted {
+    match number {
+        0 => Wanted::String,
+        1 => Wanted::Count,
+        2 => Wanted::U8,
+        3..=11 => Wanted::Flag,
+        _ => wanted_of_pair(number - 12, count),
+    }
+}
+
+fn wanted_of_pair(index: usize, count: usize) -> Wanted {
+    if index % 2 == 0 {
+        return wanted_of_parameter(index / 2, count, Wanted::Register);
+    }
+    wanted_of_parameter(index / 2, count, Wanted::Parameter)
+}
+
+// What the operand of a number must be. `given` is what the operands before it say of it: a function's count; of a GotoFrame2, 1 if
+// its first bool is true.
+fn wanted_at(shape: Shape, number: usize, given: usize) -> Wanted {
+    match shape {
+        Shape::Nothing | Shape::Block => Wanted::Nothing,
+        Shape::Values => Wanted::Value,
+        Shape::Strings => Wanted::String,
+        Shape::StringString => one_then(number, Wanted::String, Wanted::String),
+        Shape::BoolBoolU8 => two_then(number, Wanted::Bool, Wanted::U8),
+        Shape::U16 => only_first(number, Wanted::U16),
+        Shape::BoolBoolMaybeU16 => wanted_of_frame(number, given),
+        Shape::String => only_first(number, Wanted::String),
+        Shape::Identifier => only_first(number, Wanted::Label),
+        Shape::U8 => only_first(number, Wanted::U8),
+        Shape::U16U8 => one_then(number, Wanted::U16, Wanted::U8),
+        Shape::Function => wanted_of_function(number, given),
+        Shape::Function2 => wanted_of_function2(number, given),
+        Shape::Try => only_first(number, Wanted::Target),
+    }
+}
+
+// ---- the place in the text
+
+// Whether a label, an action or a handler starts behind this token, or nothing but the end of the line can.
+fn parts(tokens: &[u64], index: usize) -> bool {
+    let token = entries::token_in(tokens, index);
+    let kind = token.kind;
+    match kind {
+        TokenKind::Newline | TokenKind::Colon => true,
+        TokenKind::OpenBrace | TokenKind::CloseBrace => true,
+        _ => false,
+    }
+}
+
+// The token that the label, action or handler of a place starts with; the place itself where one could start.
+fn start_before(tokens: &[u64], index: usize) -> usize
+    ensures { λ r. ⌜ r ≤ index ⌝ }
+{
+    let mut i = index;
+    while 0 < i {
+        if parts(tokens, i - 1) {
+            return i;
+        }
+        i -= 1;
+    }
+    i
+}
+
+fn is_brace(tokens: &[u64], index: usize, is_opening: bool) -> bool {
+    let token = entries::token_in(tokens, index);
+    let kind = token.kind;
+    match kind {
+        TokenKind::OpenBrace => is_opening,
+        TokenKind::CloseBrace => !is_opening,
+        _ => false,
+    }
+}
+
+// Whether a block is open before a token: going back, a brace opens that no brace closed.
+fn is_open(tokens: &[u64], index: usize) -> bool {
+    let mut closed: usize = 0;
+    let mut i = index;
+    while 0 < i {
+        i -= 1;
+        if is_brace(tokens, i, false) {
+            closed += 1;
+            continue;
+        }
+        if !is_brace(tokens, i, true) {
+            continue;
+        }
+        if closed == 0 {
+            return true;
+        }
+        closed -= 1;
+    }
+    false
+}
+
+fn action_or_label(tokens: &[u64], index: usize) -> Sentence {
+    if is_open(tokens, index) {
+        return Sentence::ActionLabelOrBrace;
+    }
+    Sentence::ActionOrLabel
+}
+
+fn is_colon(tokens: &[u64], index: usize) -> bool {
+    let token = entries::token_in(tokens, index);
+    let kind = token.kind;
+    match kind {
+        TokenKind::Colon => true,
+        _ => false,
+    }
+}
+
+// Whether a colon stands behind a token.
+fn names_label(tokens: &[u64], index: usize) -> bool {
+    if tokens.len() <= index {
+        return false;
+    }
+    is_colon(tokens, index + 1)
+}
+
+// A keyword where a label or an action could start.
+fn at_keyword(tokens: &[u64], index: usize, otherwise: Sentence) -> Sentence {
+    if names_label(tokens, index) {
+        return Sentence::KeywordAsLabel;
+    }
+    otherwise
+}
+
+// Where a label or an action could start.
+fn at_start(tokens: &[u64], index: usize, stands: Stands) -> Sentence {
+    match stands {
+        Stands::End => Sentence::InsideBlock,
+        Stands::CloseBrace => Sentence::NotOpen,
+        Stands::OpenBrace => Sentence::BraceAlone,
+        Stands::Catch | Stands::Finally => at_keyword(tokens, index, Sentence::HandlerAlone),
+        Stands::Keyword => at_keyword(tokens, index, action_or_label(tokens, index)),
+        _ => action_or_label(tokens, index),
+    }
+}
+
+fn is_behind_brace(tokens: &[u64], index: usize) -> bool {
+    if index == 0 {
+        return false;
+    }
+    is_brace(tokens, index - 1, false)
+}
+
+fn one_if_true(tokens: &[u64], index: usize) -> usize {
+    let token = entries::token_in(tokens, index);
+    let kind = token.kind;
+    match kind {
+        TokenKind::True => 1,
+        _ => 0,
+    }
+}
+
+// What the operands of an action say of those to come. A token is an operand or a comma, by turns.
+fn given_at(text: &[u8], tokens: &[u64], start: usize, shape: Shape) -> usize {
+    if tokens.len() <= start {
+        return 0;
+    }
+    match shape {
+        Shape::Function | Shape::Function2 => count_at(text, tokens, start + 3) as usize,
+        Shape::BoolBoolMaybeU16 => one_if_true(tokens, start + 1),
+        _ => 0,
+    }
+}
+
+// Behind the name of an action, which is the token at `start`.
+fn in_action(
+    text: &[u8],
+    tokens: &[u64],
+    start: usize,
+    behind: usize,
+    name: ActionName,
+    stands: Stands,
+) -> Sentence {
+    let shape = shapes::shape_of(name);
+    let given = given_at(text, tokens, start, shape);
+    sentence_of(shape, behind / 2, behind % 2 == 1, given, stands)
+}
+
+fn sentence_at(text: &[u8], tokens: &[u64], index: usize, stands: Stands) -> Sentence {
+    if is_behind_brace(tokens, index) {
+        return at_line_end(stands);
+    }
+    let start = start_before(tokens, index);
+    if start == index {
+        return at_start(tokens, index, stands);
+    }
+    let token = entries::token_in(tokens, start);
+    let kind = token.kind;
+    match kind {
+        TokenKind::ActionName(name) => {
+            in_action(text, tokens, start, index - start, name, stands)
+        }
+        TokenKind::Identifier => Sentence::NoSuchAction,
+        // catch or finally
+        _ => Sentence::Brace,
+    }
+}
+
+// What can stand nowhere is told whatever was expected.
+fn sentence_for(text: &[u8], tokens: &[u64], index: usize, stands: Stands) -> Sentence {
+    match stands {
+        Stands::Comment => Sentence::Comment,
+        Stands::ByteOrderMark => Sentence::ByteOrderMark,
+        Stands::Control => Sentence::Control,
+        _ => sentence_at(text, tokens, index, stands),
+    }
+}
+
+// Says what was expected at the token of a refusal 6. `tokens` are those of the text, and no more.
+pub fn print_expected(text: &[u8], tokens: &[u64], index: usize) {
+    let stands = stands_at(text, tokens, index);
+    print_sentence(sentence_for(text, tokens, index, stands), stands);
+}
+
+fn before(index: usize) -> usize {
+    if index == 0 { 0 } else { index - 1 }
+}
+
+// The token to mark: of a word that was taken for a label, or an action's name that was written as one, that word.
+pub fn marked_token(text: &[u8], tokens: &[u64], index: usize) -> usize {
+    let stands = stands_at(text, tokens, index);
+    match sentence_for(text, tokens, index, stands) {
+        Sentence::NoSuchAction | Sentence::ActionAsLabel => before(index),
+        _ => index,
+    }
+}
