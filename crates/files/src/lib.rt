@@ -134,4 +134,5 @@ const STATUS: i32 = 3;
 
 pub fn tell_status(status: u64) {
     io::print_decimal(STATUS, status);
+    io::write_all(STATUS, b"\n");
 }
