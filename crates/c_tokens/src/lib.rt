@@ -1,4 +1,4 @@
-// What C is told of tokens, deltas and values: the numbers of an answer in `out` arrays, and 0 or a refusal's number.
+// What C is told of tokens, deltas, values, names and places: the numbers of an answer in `out` arrays, and 0 or a refusal's number.
 use lexer::Lexing;
 use pcode::StackDelta;
 use tokens::Span;
@@ -6,10 +6,13 @@ use tokens::Token;
 use values::PushValue;
 use values::TokenValue;
 ghost use mathlib.Core.Path.{_≡_};
+ghost use lib.ListN.{length};
+ghost use Rattle.words.specs.Spellings.{allLetters};
 ghost use Rattle.lexer.specs.Lexing as Lexes;
 ghost use Rattle.pcode.specs.Deltas as Deltas;
 ghost use Rattle.values.specs.Values as Values;
 ghost use Rattle.c_tokens.specs.Tokens.{returned, tokensAfter, tokenAfter, boundsAfter, deltaAfter, tokenWith, valueWith, fieldsOf, integerAfter, valueAfter};
+ghost use Rattle.c_tokens.specs.Places.{nameOf, wordAfter, placeAfter};
 
 pub fn tell_tokens(answer: Lexing, out: &mut [u64; 1]) -> u64
     ensures { λ r. ⌜ r ≡ returned (Lexes.answer answer) ⌝ }
@@ -130,4 +133,43 @@ pub fn tell_value(answer: TokenValue, integer: &mut [i32; 1], out: &mut [u64; 4]
         }
         TokenValue::Refused(r) => answers::refusal_number(r),
     }
+}
+
+// ---- names and places
+
+// The name of the action of a number, a part of the letters; empty where no action has the number.
+fn name_of(letters: &[u8], action: usize) -> &[u8]
+    requires { ⌜ now letters ≡ allLetters ⌝ }
+    ensures { λ r. ⌜ now r ≡ nameOf action ⌝ }
+{
+    if 100 <= action {
+        return &letters[0..0];
+    }
+    words::spelling(letters, actions::action_at(action))
+}
+
+// All of a word or nothing of it: a part could be another action's name.
+fn put_word(word: &[u8], name: &mut [u8]) -> usize
+    ensures { λ r. ⌜ r ≡ length (now (word .entry)) ⌝ }
+    ensures { λ r. ⌜ now (name .exit) ≡ wordAfter (now (word .entry)) (now (name .entry)) ⌝ }
+{
+    if name.len() < word.len() {
+        return word.len();
+    }
+    bytes::copy(word, name)
+}
+
+pub fn tell_name(action: usize, name: &mut [u8]) -> usize
+    ensures { λ r. ⌜ r ≡ length (nameOf action) ⌝ }
+    ensures { λ r. ⌜ now (name .exit) ≡ wordAfter (nameOf action) (now (name .entry)) ⌝ }
+{
+    let letters = words::LETTERS;
+    put_word(name_of(&letters, action), name)
+}
+
+pub fn tell_place(text: &[u8], at: usize, out: &mut [u64; 2])
+    ensures { λ r. ⌜ now (out .exit) ≡ placeAfter (now (text .entry)) at (now (out .entry)) ⌝ }
+{
+    out[0] = places::line_at(text, at) as u64;
+    out[1] = places::column_at(text, at) as u64;
 }

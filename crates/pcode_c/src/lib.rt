@@ -11,6 +11,7 @@ ghost use Rattle.lexer.specs.Lexing.{counted, lexText, tableAfter};
 ghost use Rattle.pcode.specs.Deltas.{deltaAnswer};
 ghost use Rattle.values.specs.Values.{valueAnswer};
 ghost use Rattle.c_tokens.specs.Tokens.{returned, tokensAfter, tokenAfter, boundsAfter, deltaAfter, tokenWith, integerAfter, valueAfter};
+ghost use Rattle.c_tokens.specs.Places.{nameOf, wordAfter, placeAfter};
 ghost use Rattle.c_entries.specs.Entries.{actionAfter, operandAfter, levelAfter, heightAfter, labelAfter};
 ghost use Rattle.pcode_c.specs.ReadFor.{ReadFor};
 
@@ -102,6 +103,14 @@ pub extern "C" fn pcode_delta(
 }
 
 #[no_mangle]
+pub extern "C" fn pcode_action_name(action: usize, name: &mut [u8]) -> usize
+    ensures { λ r. ⌜ r ≡ length (nameOf action) ⌝ }
+    ensures { λ r. ⌜ now (name .exit) ≡ wordAfter (nameOf action) (now (name .entry)) ⌝ }
+{
+    c_tokens::tell_name(action, name)
+}
+
+#[no_mangle]
 pub extern "C" fn pcode_value(
     text: &[u8],
     kind: u64,
@@ -116,4 +125,13 @@ pub extern "C" fn pcode_value(
 {
     let answer = values::value(text, c_tokens::token_with(kind, start, end));
     c_tokens::tell_value(answer, integer, out)
+}
+
+// ---- places
+
+#[no_mangle]
+pub extern "C" fn pcode_line_column(text: &[u8], at: usize, out: &mut [u64; 2])
+    ensures { λ r. ⌜ now (out .exit) ≡ placeAfter (now (text .entry)) at (now (out .entry)) ⌝ }
+{
+    c_tokens::tell_place(text, at, out)
 }
