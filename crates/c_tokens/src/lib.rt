@@ -170,6 +170,8 @@ pub fn tell_name(action: usize, name: &mut [u8]) -> usize
 pub fn tell_place(text: &[u8], at: usize, out: &mut [u64; 2])
     ensures { λ r. ⌜ now (out .exit) ≡ placeAfter (now (text .entry)) at (now (out .entry)) ⌝ }
 {
-    out[0] = places::line_at(text, at) as u64;
-    out[1] = places::column_at(text, at) as u64;
+    let line = places::line_at(text, at);
+    let column = places::column_at(text, at);
+    out[0] = line as u64;
+    out[1] = column as u64;
 }
