@@ -11,16 +11,17 @@
  *             pcode_token(tokens[label[1]], token);    // its name: the bytes of the text from token[3] up to token[4]
  *         }
  *
- * A whole program is examples/labels.c. The words are those of document 01 (docs/01-scope.md); all numbering starts at 0.
+ * A whole program is examples/labels.c. The words are those of document 01 (docs/01-scope.md); all numbering starts at 0, but that of
+ * lines and columns at 1.
  *
  * What is asked of the caller: each pointer points to as many elements as the length beside it or the size in its brackets says and is
- * not NULL, even where that length is 0; what is written through a pointer overlaps nothing else that is passed. Any bytes, lengths,
- * words and numbers are answered.
+ * not NULL, even where that length is 0; it is aligned as its type asks, a uint64_t or int64_t to 8 bytes, an int32_t to 4; what is
+ * written through a pointer overlaps nothing else that is passed. Any bytes, lengths, words and numbers are answered.
  *
  * What a call does: it writes what is told here and nothing else. It keeps no pointer, has no state and allocates nothing, so threads
- * may call at the same time with tables and out of their own. Stack, by the length of the text: pcode_read 0.2 MB up to 4,096 bytes,
- * 1.2 MB up to 16,384, 2.0 MB for any; pcode_lex 12 KB up to 1,024 bytes, 0.1 MB up to 4,096, 0.6 MB for any; the others less than
- * 1 KB (measured: compare/stack). A thread may have less unless it is given more; a main thread usually has 8 MB.
+ * may call at the same time with tables and out of their own. Its stack depends on the length of the text: the constants PCODE_.._STACK,
+ * in bytes. The worst text found takes 1,914,216 of pcode_read, so give a thread that calls it 4,194,304 (PCODE_THREAD_STACK). A main
+ * thread usually has 8,388,608.
  *
  * A call that can refuse returns 0, or the number of the refusal. A refusal changes no table. Its place goes to out[0] of pcode_lex and
  * pcode_read, the rest of out staying as it was; pcode_delta and pcode_value then write nothing.
@@ -37,6 +38,13 @@
  * They are tried in this order, but of 3 and 4, and of 6 and 7, the earlier place wins. pcode_lex gives 1 to 5, pcode_read 1 to 8,
  * pcode_delta 1 and 9, pcode_value 1 and 6.
  *
+ * So the place of 2, 3 and 4 is a byte of the text, and that of 6 and 7 an entry of the token table, which pcode_read left as it was.
+ * pcode_lex gives the tokens, and they the byte; a place that is their number is the text's end:
+ *
+ *     pcode_lex(text, text_len, tokens, n, count);                        // 0: what is refused with 6 or 7 can be lexed
+ *     if (out[0] < count[0]) pcode_token(tokens[out[0]], token); else token[1] = text_len;
+ *     pcode_line_column(text, text_len, (size_t)token[1], place);         // place[0] is the line, place[1] the column
+ *
  * What is returned and written is proved, for every argument: the contracts in crates/pcode_c/src/lib.rt, over the definitions of
  * crates/c_tokens/specs and crates/c_entries/specs. Stack and time are not.
  */
@@ -52,6 +60,93 @@
 #ifdef __cplusplus
 extern "C" {
 #endif
+
+/* ---- constants */
+
+#define PCODE_VERSION "1.0"
+#define PCODE_VERSION_MAJOR 1
+#define PCODE_VERSION_MINOR 0
+
+#define PCODE_MOST_BYTES 65536 /* of a text: a longer one is refused */
+#define PCODE_MOST_BLOCKS 64   /* that may be open at once */
+#define PCODE_MOST_NAME 15     /* bytes of an action's name */
+
+/* Bytes of stack, measured for the worst texts that were found, and some ten percent more; compare/stack holds the calls to them. The
+ * number behind a name is the length of text, in bytes, up to which it holds; without one it holds for any text. */
+#define PCODE_READ_STACK_4096 196000
+#define PCODE_READ_STACK_16384 1250000
+#define PCODE_READ_STACK 2110000
+#define PCODE_LEX_STACK_1024 11500
+#define PCODE_LEX_STACK_4096 84000
+#define PCODE_LEX_STACK 590000
+#define PCODE_OTHER_STACK 1900
+#define PCODE_THREAD_STACK 4194304 /* for a thread that makes any of these calls: the most of them, and room for its own */
+
+/* The kinds of tokens, and the parts of a kind's number (out[0] of pcode_token). */
+#define PCODE_KIND(number) ((number) / 65536)    /* one of PCODE_KIND_NEWLINE to PCODE_KIND_UNKNOWN */
+#define PCODE_CARRIED(number) ((number) % 65536) /* the register, the constant or the number of the action, else 0 */
+enum {
+    PCODE_KIND_NEWLINE = 0,
+    PCODE_KIND_STRING = 1,
+    PCODE_KIND_FLOAT = 2,
+    PCODE_KIND_INTEGER = 3,
+    PCODE_KIND_REGISTER = 4,
+    PCODE_KIND_CONSTANT = 5,
+    PCODE_KIND_ACTION_NAME = 6,
+    PCODE_KIND_IDENTIFIER = 7,
+    PCODE_KIND_COLON = 8,
+    PCODE_KIND_COMMA = 9,
+    PCODE_KIND_OPEN_BRACE = 10,
+    PCODE_KIND_CLOSE_BRACE = 11,
+    PCODE_KIND_TRUE = 12,
+    PCODE_KIND_FALSE = 13,
+    PCODE_KIND_NULL = 14,
+    PCODE_KIND_UNDEFINED = 15,
+    PCODE_KIND_CATCH = 16,
+    PCODE_KIND_FINALLY = 17,
+    PCODE_KIND_UNKNOWN = 18
+};
+
+/* The refusals, as listed above. */
+enum {
+    PCODE_REFUSED_TOO_LONG = 1,
+    PCODE_REFUSED_NOT_UTF8 = 2,
+    PCODE_REFUSED_LONE_QUOTE = 3,
+    PCODE_REFUSED_CUT_CHARACTER = 4,
+    PCODE_REFUSED_TOKEN_TABLE_SHORT = 5,
+    PCODE_REFUSED_NOT_GRAMMATICAL = 6, /* of pcode_read */
+    PCODE_REFUSED_NO_VALUE = 6,        /* of pcode_value */
+    PCODE_REFUSED_TOO_DEEP = 7,
+    PCODE_REFUSED_TABLE_SHORT = 8,
+    PCODE_REFUSED_UNDETERMINED = 9
+};
+
+/* The cases of a value (out[0] of pcode_value). */
+enum {
+    PCODE_VALUE_NULL = 0,
+    PCODE_VALUE_UNDEFINED = 1,
+    PCODE_VALUE_STRING = 2,
+    PCODE_VALUE_INTEGER = 3,
+    PCODE_VALUE_FLOAT = 4,
+    PCODE_VALUE_TRUE = 5,
+    PCODE_VALUE_FALSE = 6,
+    PCODE_VALUE_REGISTER = 7,
+    PCODE_VALUE_CONSTANT = 8,
+    PCODE_VALUE_LONG = 9
+};
+
+/* Which block a level is, and whether its net is a height (out[0] and out[3] of pcode_level). */
+enum {
+    PCODE_BLOCK_TOP = 0,
+    PCODE_BLOCK_BODY = 1,
+    PCODE_BLOCK_TRY = 2,
+    PCODE_BLOCK_CATCH = 3,
+    PCODE_BLOCK_FINALLY = 4
+};
+enum {
+    PCODE_NET_HEIGHT = 0,
+    PCODE_NET_UNDETERMINED = 1
+};
 
 /* ---- a text into tables, a 64-bit word for each entry */
 
@@ -77,12 +172,13 @@ uint64_t pcode_read(const uint8_t *text, size_t text_len, uint64_t *tokens, size
 /* A token. out[0]: the number of its kind, 65,536 times the place in TokenKind (0 Newline, 1 String, 2 Float, 3 Integer, 4 Register,
  * 5 Constant, 6 ActionName, 7 Identifier, 8 Colon, 9 Comma, 10 OpenBrace, 11 CloseBrace, 12 True, 13 False, 14 Null, 15 Undefined,
  * 16 Catch, 17 Finally, 18 Unknown) plus what it carries: the register up to 255, the constant up to 65,535, the number of the action
- * up to 99, else 0. out[1], out[2]: start and end of its span, start < end <= text_len. out[3], out[4]: start and end of its raw text,
- * a string's without its quotes, any other's the span; start <= end <= text_len. An end is the byte behind the last. */
+ * up to 99, else 0; PCODE_KIND and PCODE_CARRIED take it apart. out[1], out[2]: start and end of its span, start < end <= text_len.
+ * out[3], out[4]: start and end of its raw text, a string's without its quotes, any other's the span; start <= end <= text_len. An end is
+ * the byte behind the last. */
 void pcode_token(uint64_t word, uint64_t out[5]);
 
-/* An action. out[0]: its number, 0 Add to 99 With in the order of ActionName. out[1]: its level, < levels. out[2]: its first entry in the
- * operand table. out[3]: how many operand entries it has, one after the other; out[2] + out[3] <= operands. */
+/* An action. out[0]: its number, 0 Add to 99 With in the order of ActionName (pcode_action_name). out[1]: its level, < levels. out[2]: its
+ * first entry in the operand table. out[3]: how many operand entries it has, one after the other; out[2] + out[3] <= operands. */
 void pcode_action(uint64_t word, uint64_t out[4]);
 
 /* An operand. out[0]: its action, < actions. out[1]: its token, < tokens. */
@@ -110,13 +206,26 @@ void pcode_raw_text(const uint8_t *text, size_t text_len, size_t start, size_t e
  * a DefineFunction2 make use of it. 9 for CallFunction, CallMethod, ImplementsOp, InitArray, InitObject, NewMethod, StartDrag. */
 uint64_t pcode_delta(size_t action, size_t values, bool name_is_empty, int32_t out[1]);
 
+/* The name of an action, given by its number, as document 01 spells it: 0 Add to 99 With. Returns its length in bytes, 1 to 15, or 0 for a
+ * number that no action has: asked for 0, 1, 2, .. until it returns 0, it gives all names. The name goes to the front of `name`, with no
+ * zero byte behind it; what stands behind it stays. Where `name` has fewer places than that, nothing is written. */
+size_t pcode_action_name(size_t action, uint8_t *name, size_t name_len);
+
 /* The value of a token, given by the number of its kind (pcode_token's out[0]; for other numbers: 18 * 65,536 and above are an Unknown's;
- * below, what a kind does not carry is passed over, and a register is taken modulo 256) and the bounds of its raw text (out[3], out[4]). out[0]: the case, 0 null, 1 undefined, 2 string, 3 integer, 4 double, 5 true, 6 false, 7 register,
- * 8 constant, 9 long (a number that is kept as it was typed). integer[0]: the number of an integer, a register or a constant, else 0.
- * out[1]: the IEEE 754 bits of a double, those of nan always 0x7FF8000000000000, else 0. out[2], out[3]: the bounds of the raw text of a
- * string or a long, else 0. 6 where there is no value, and where the bounds are out of order or past the text, whatever the kind. */
+ * below, what a kind does not carry is passed over, and a register is taken modulo 256) and the bounds of its raw text (out[3], out[4]).
+ * out[0]: the case, 0 null, 1 undefined, 2 string, 3 integer, 4 double, 5 true, 6 false, 7 register, 8 constant, 9 long (a number that is
+ * kept as it was typed): PCODE_VALUE_... integer[0]: the number of an integer, a register or a constant, else 0. out[1]: the IEEE 754 bits
+ * of a double, those of nan always 0x7FF8000000000000, else 0. out[2], out[3]: the bounds of the raw text of a string or a long, else 0.
+ * 6 where there is no value, and where the bounds are out of order or past the text, whatever the kind. */
 uint64_t pcode_value(const uint8_t *text, size_t text_len, uint64_t kind, size_t start, size_t end, int32_t integer[1],
                      uint64_t out[4]);
+
+/* ---- places */
+
+/* Where a byte of a text stands. out[0]: its line, out[1]: its column, both from 1. A line ends with a line feed, a carriage return, or
+ * a carriage return and a line feed; a column counts characters, not bytes. A place past the end is taken as the end. Refuses nothing: the
+ * text may have any length and need not be UTF-8 (what counts as a character is each byte but those from 128 to 191). */
+void pcode_line_column(const uint8_t *text, size_t text_len, size_t at, uint64_t out[2]);
 
 #ifdef __cplusplus
 }

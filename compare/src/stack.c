@@ -14,7 +14,7 @@
 
 #include "pcode.h"
 
-enum { LONGEST = 65536, PLACES = LONGEST + 1, STACK = 8 << 20, GUARD = 1 << 16 };
+enum { LONGEST = PCODE_MOST_BYTES, PLACES = LONGEST + 1, STACK = 8 << 20, GUARD = 1 << 16 };
 static const uint64_t PAINT = 0xA5C3965A3C69F00D;
 
 /* What the calls are given and write is not on the stack. */
@@ -107,6 +107,16 @@ static void nested_try(size_t size)
     nested(size, 63, "Try \"t\"{", "}\ncatch{}\nfinally{}\n");
 }
 
+/* Labels in the innermost of 64 blocks: deep and many at once. */
+static void nested_labels(size_t size)
+{
+    for (int i = 0; i < 64; i++)
+        add(size, "With{");
+    distinct_labels(size - 64 * strlen("}\n"));
+    for (int i = 0; i < 64; i++)
+        add(size, "}\n");
+}
+
 /* Refused with 6 at the end: a line there starts with a comma. */
 static void refused_lines(size_t size)
 {
@@ -190,6 +200,19 @@ static void call_delta(void)
         pcode_delta(action, 3, true, integer);
 }
 
+static void call_action_name(void)
+{
+    static uint8_t name[PCODE_MOST_NAME];
+    for (size_t action = 0; action < 102; action++)
+        pcode_action_name(action, name, sizeof name);
+}
+
+static void call_line_column(void)
+{
+    for (size_t at = 0; at <= LONGEST; at += LONGEST / 8)
+        pcode_line_column(text, LONGEST, at, out);
+}
+
 /* Each kind of token with each raw text. */
 static void call_value(void)
 {
@@ -199,11 +222,12 @@ static void call_value(void)
             pcode_value((const uint8_t *)raw[i], strlen(raw[i]), kind * 65536, 0, strlen(raw[i]), integer, out);
 }
 
-/* ---- the limits, in bytes of stack: what was measured on x86-64, and some ten percent more. What include/pcode.h says of the stack
- * goes by them. */
+/* ---- the limits, in bytes of stack: what was measured on x86-64, and some ten percent more. Those of the worst texts are what
+ * include/pcode.h promises, and stand there; an ordinary text's are lower. */
 
 enum { SIZES = 5 };
 static const size_t sizes[SIZES] = {256, 1024, 4096, 16384, 65536};
+#define LEX_LIMITS {PCODE_LEX_STACK_1024, PCODE_LEX_STACK_1024, PCODE_LEX_STACK_4096, PCODE_LEX_STACK, PCODE_LEX_STACK}
 
 /* A call whose stack depends on the text; no limit stands where the text has no room. */
 static const struct on_text {
@@ -216,19 +240,24 @@ static const struct on_text {
 } on_texts[] = {
     {"pcode_read", call_read, "ordinary lines", ordinary, 0, {88000, 88000, 88000, 376000, 1350000}},
     {"pcode_read", call_read, "Push 1,1,..", values, 0, {88000, 88000, 88000, 376000, 1250000}},
-    {"pcode_read", call_read, "one label", one_label, 0, {88000, 196000, 196000, 1250000, 2110000}},
-    {"pcode_read", call_read, "distinct labels", distinct_labels, 0, {88000, 88000, 196000, 1250000, 2110000}},
+    {"pcode_read", call_read, "one label", one_label, 0,
+     {88000, PCODE_READ_STACK_4096, PCODE_READ_STACK_4096, PCODE_READ_STACK_16384, PCODE_READ_STACK}},
+    {"pcode_read", call_read, "distinct labels", distinct_labels, 0,
+     {88000, 88000, PCODE_READ_STACK_4096, PCODE_READ_STACK_16384, PCODE_READ_STACK}},
+    {"pcode_read", call_read, "nested labels", nested_labels, 0,
+     {0, 114000, PCODE_READ_STACK_4096, 484000, PCODE_READ_STACK}},
     {"pcode_read", call_read, "many levels", many_levels, 0, {88000, 88000, 88000, 376000, 1250000}},
     {"pcode_read", call_read, "64 nested With", nested_with, 0, {0, 114000, 114000, 400000, 1270000}},
     {"pcode_read", call_read, "63 nested Try", nested_try, 0, {0, 0, 114000, 400000, 1270000}},
     {"pcode_read", call_read, "refused lines", refused_lines, 6, {88000, 88000, 88000, 376000, 1250000}},
     {"pcode_read", call_read, "refused Push 1,1,..", refused_values, 6, {88000, 88000, 88000, 376000, 1250000}},
     {"pcode_read", call_read, "refused labels", refused_labels, 6, {88000, 88000, 88000, 376000, 1250000}},
-    {"pcode_lex", call_lex, "ordinary lines", ordinary, 0, {11500, 11500, 84000, 590000, 590000}},
-    {"pcode_lex", call_lex, "Push 1,1,..", values, 0, {11500, 11500, 84000, 590000, 590000}},
-    {"pcode_lex", call_lex, "distinct labels", distinct_labels, 0, {11500, 11500, 84000, 590000, 590000}},
+    {"pcode_lex", call_lex, "ordinary lines", ordinary, 0, LEX_LIMITS},
+    {"pcode_lex", call_lex, "Push 1,1,..", values, 0, LEX_LIMITS},
+    {"pcode_lex", call_lex, "distinct labels", distinct_labels, 0, LEX_LIMITS},
 };
 
+/* None of these may take more than PCODE_OTHER_STACK; most take far less. */
 static const struct small {
     const char *name;
     void (*call)(void);
@@ -236,7 +265,8 @@ static const struct small {
 } smalls[] = {
     {"pcode_token", call_token, 64},   {"pcode_action", call_action, 64}, {"pcode_operand", call_operand, 64},
     {"pcode_level", call_level, 64},   {"pcode_label", call_label, 64},   {"pcode_raw_text", call_raw_text, 64},
-    {"pcode_delta", call_delta, 540}, {"pcode_value", call_value, 600},
+    {"pcode_delta", call_delta, 540},  {"pcode_value", call_value, 600},  {"pcode_action_name", call_action_name, PCODE_OTHER_STACK},
+    {"pcode_line_column", call_line_column, 64},
 };
 
 /* ---- measuring */
@@ -296,7 +326,7 @@ static size_t switching;
 static bool keeps(const char *name, void (*call)(void), const char *what, size_t limit)
 {
     size_t took = depth_of(call) - switching;
-    printf("%-15s %-20s %6zu %8zu %8zu%s\n", name, what, length, took, limit, took > limit ? "  OVER" : "");
+    printf("%-17s %-20s %6zu %8zu %8zu%s\n", name, what, length, took, limit, took > limit ? "  OVER" : "");
     return took <= limit;
 }
 
@@ -306,7 +336,7 @@ int main(void)
     setvbuf(stdout, NULL, _IOLBF, BUFSIZ);
     prepare();
     switching = depth_of(call_nothing);
-    printf("%-15s %-20s %6s %8s %8s\n", "call", "text", "bytes", "stack", "limit");
+    printf("%-17s %-20s %6s %8s %8s\n", "call", "text", "bytes", "stack", "limit");
     for (const struct on_text *c = on_texts; c < on_texts + sizeof on_texts / sizeof *on_texts; c++)
         for (int i = 0; i < SIZES; i++) {
             if (c->limits[i] == 0)
