@@ -1,12 +1,14 @@
 /* Prints the labels of a p-code patch, one to a line: label LEVEL NAME POSITION.
  *
- *     labels [FILE]        reads FILE, or standard input
+ *     rt staticlib pcode_c
+ *     gcc -std=c99 -O2 -I include -o labels examples/labels.c -L target/staticlib -lpcode_c
+ *     ./labels [FILE]        reads FILE, or standard input
  *
- * A patch that is refused prints `refused N at P`; include/pcode.h tells what N and P mean. The exit status is 0 if the patch was
- * read, 1 if it was refused, 2 if there was no patch to read or nowhere to print.
+ * A patch that is refused prints `refused N at P`, and `, line L, column C` where P is in the text; include/pcode.h tells what N and P
+ * mean. The exit status is 0 if the patch was read, 1 if it was refused, 2 if there was no patch to read or nowhere to print.
  *
- * Stack: pcode_read takes up to 2.0 MB. A main thread usually has 8 MB (`ulimit -s`); to call it from another
- * thread, give that thread as much (pthread_attr_setstacksize). */
+ * Stack: a main thread usually has enough (`ulimit -s`); to call pcode_read from another thread, give that PCODE_THREAD_STACK bytes
+ * (pthread_attr_setstacksize). */
 #include <errno.h>
 #include <stdint.h>
 #include <stdio.h>
@@ -16,7 +18,7 @@
 #include "pcode.h"
 
 /* A longer text is refused with 1, so one byte more than the limit is all that has to be read of it. */
-enum { LIMIT = 65536, ROOM = LIMIT + 1 };
+enum { ROOM = PCODE_MOST_BYTES + 1 };
 
 /* Says on standard error what failed; the exit status of such a run. */
 static int failed(const char *what)
@@ -39,7 +41,32 @@ static void print_labels(const uint8_t *text, const uint64_t *tokens, const uint
     }
 }
 
-/* Reads the text into tables that hold any reading of it: a place for each byte, and one more. */
+/* The first byte of a token, or the text's end where there are no more tokens. A refused reading left the table as it was, so the text
+ * is lexed into it; there is room for a token for each byte. */
+static uint64_t byte_of(const uint8_t *text, size_t length, uint64_t *tokens, uint64_t place)
+{
+    uint64_t count[1], token[5];
+    pcode_lex(text, length, tokens, length, count);
+    if (place >= count[0])
+        return length;
+    pcode_token(tokens[place], token);
+    return token[1];
+}
+
+static void print_refusal(const uint8_t *text, size_t length, uint64_t *tokens, uint64_t refusal, uint64_t place)
+{
+    uint64_t at[2];
+    printf("refused %llu at %llu", (unsigned long long)refusal, (unsigned long long)place);
+    if (refusal == PCODE_REFUSED_NOT_GRAMMATICAL || refusal == PCODE_REFUSED_TOO_DEEP)
+        place = byte_of(text, length, tokens, place);
+    if (refusal != PCODE_REFUSED_TOO_LONG) {
+        pcode_line_column(text, length, (size_t)place, at);
+        printf(", line %llu, column %llu", (unsigned long long)at[0], (unsigned long long)at[1]);
+    }
+    printf("\n");
+}
+
+/* Reads the text into tables that hold any reading of it, a place for each byte and one more: 5 and 8 are no answers then. */
 static int list(const uint8_t *text, size_t length)
 {
     size_t places = length + 1;
@@ -58,7 +85,7 @@ static int list(const uint8_t *text, size_t length)
     if (refusal == 0)
         print_labels(text, tokens, labels, out[4]);
     else
-        printf("refused %llu at %llu\n", (unsigned long long)refusal, (unsigned long long)out[0]);
+        print_refusal(text, length, tokens, refusal, out[0]);
 
     free(tables);
     return refusal == 0 ? 0 : 1;

@@ -1,9 +1,11 @@
-//! Prints the labels of a p-code patch, one to a line: label LEVEL NAME POSITION.
+//! Prints the labels of a p-code patch, one to a line: label LEVEL NAME POSITION. Rust, edition 2024, with no crates:
 //!
-//!     labels [FILE]        reads FILE, or standard input
+//!     rt staticlib pcode_c
+//!     rustc --edition 2024 -O -o labels examples/labels.rs -L target/staticlib -l static=pcode_c
+//!     ./labels [FILE]        reads FILE, or standard input
 //!
-//! A patch that is refused prints `refused N at P`; include/pcode.h tells what N and P mean. The exit status is 0 if the patch was
-//! read, 1 if it was refused, 2 if there was no patch to read or nowhere to print.
+//! A patch that is refused prints `refused N at P`, and `, line L, column C` where P is in the text; include/pcode.h tells what N and P
+//! mean. The exit status is 0 if the patch was read, 1 if it was refused, 2 if there was no patch to read or nowhere to print.
 
 use std::fs::File;
 use std::io::{self, Read, Write};
@@ -21,16 +23,18 @@ mod pcode {
                 operands: *mut u64, operands_len: usize, levels: *mut u64, levels_len: usize, labels: *mut u64, labels_len: usize,
                 out: *mut u64,
             ) -> u64;
+            pub fn pcode_lex(text: *const u8, text_len: usize, table: *mut u64, table_len: usize, out: *mut u64) -> u64;
+            pub fn pcode_line_column(text: *const u8, text_len: usize, at: usize, out: *mut u64);
             pub fn pcode_token(word: u64, out: *mut u64);
             pub fn pcode_label(word: u64, out: *mut u64);
         }
     }
 
-    /// `pcode_read` takes up to 2.0 MB of stack; a thread that Rust starts has 2 MB unless it is told otherwise.
-    pub const STACK: usize = 8 << 20;
+    /// PCODE_THREAD_STACK: the bytes of stack to give to a thread. One that Rust starts has 2,097,152 unless it is told otherwise.
+    pub const THREAD_STACK: usize = 4_194_304;
 
-    /// A text over 65,536 bytes is refused with 1.
-    pub const LIMIT: usize = 65_536;
+    /// PCODE_MOST_BYTES: a longer text is refused with 1.
+    pub const MOST_BYTES: usize = 65_536;
 
     /// The number of a refusal, and its place.
     pub struct Refusal {
@@ -70,6 +74,33 @@ mod pcode {
         Ok(r)
     }
 
+    /// The line and the column of a refusal of `read`, if its place is in the text. The place of 6 and 7 is a token's; where there are
+    /// no more tokens it is the text's end.
+    pub fn line_column(text: &[u8], refusal: &Refusal) -> Option<(u64, u64)> {
+        let at = match refusal.number {
+            2..=4 => refusal.place as usize,
+            6 | 7 => tokens(text).get(refusal.place as usize).map_or(text.len(), |word| token(*word)[1] as usize),
+            _ => return None,
+        };
+        let mut out = [0u64; 2];
+        unsafe { c::pcode_line_column(text.as_ptr(), text.len(), at, out.as_mut_ptr()) };
+        Some((out[0], out[1]))
+    }
+
+    /// The tokens of a text that can be lexed.
+    fn tokens(text: &[u8]) -> Vec<u64> {
+        let (mut table, mut out) = (vec![0u64; text.len()], [0u64; 1]);
+        unsafe { c::pcode_lex(text.as_ptr(), text.len(), table.as_mut_ptr(), table.len(), out.as_mut_ptr()) };
+        table.truncate(out[0] as usize);
+        table
+    }
+
+    fn token(word: u64) -> [u64; 5] {
+        let mut out = [0u64; 5];
+        unsafe { c::pcode_token(word, out.as_mut_ptr()) };
+        out
+    }
+
     pub struct Label {
         pub level: u64,
         /// The number of the token that names it.
@@ -85,9 +116,8 @@ mod pcode {
 
     /// Where the raw text of a token stands in the text.
     pub fn raw(word: u64) -> Range<usize> {
-        let mut out = [0u64; 5];
-        unsafe { c::pcode_token(word, out.as_mut_ptr()) };
-        out[3] as usize..out[4] as usize
+        let token = token(word);
+        token[3] as usize..token[4] as usize
     }
 }
 
@@ -96,7 +126,11 @@ fn list(text: &[u8], out: &mut impl Write) -> io::Result<bool> {
     let reading = match pcode::read(text) {
         Ok(reading) => reading,
         Err(r) => {
-            writeln!(out, "refused {} at {}", r.number, r.place)?;
+            write!(out, "refused {} at {}", r.number, r.place)?;
+            if let Some((line, column)) = pcode::line_column(text, &r) {
+                write!(out, ", line {line}, column {column}")?;
+            }
+            writeln!(out)?;
             return Ok(false);
         }
     };
@@ -110,9 +144,9 @@ fn list(text: &[u8], out: &mut impl Write) -> io::Result<bool> {
 }
 
 /// One byte more than the limit is all that has to be read of a text that is too long.
-fn input(file: Option<String>) -> io::Result<Vec<u8>> {
+fn input(file: Option<&str>) -> io::Result<Vec<u8>> {
     let mut text = Vec::new();
-    let limit = pcode::LIMIT as u64 + 1;
+    let limit = pcode::MOST_BYTES as u64 + 1;
     match file {
         Some(name) => File::open(name)?.take(limit).read_to_end(&mut text)?,
         None => io::stdin().take(limit).read_to_end(&mut text)?,
@@ -120,22 +154,26 @@ fn input(file: Option<String>) -> io::Result<Vec<u8>> {
     Ok(text)
 }
 
-fn run() -> io::Result<bool> {
+/// Lists the patch on standard output; an error says what failed.
+fn run() -> Result<bool, String> {
     let mut args = std::env::args().skip(1);
     let file = args.next();
     if args.next().is_some() {
-        return Err(io::Error::other("usage: labels [FILE]"));
+        return Err("usage: labels [FILE]".into());
     }
-    let text = input(file)?;
+    let name = file.as_deref().unwrap_or("standard input");
+    let text = input(file.as_deref()).map_err(|e| format!("{name}: {e}"))?;
     let mut out = io::stdout().lock();
-    let was_read = list(&text, &mut out)?;
-    out.flush()?;
-    Ok(was_read)
+    list(&text, &mut out).and_then(|was_read| out.flush().map(|()| was_read)).map_err(|e| format!("standard output: {e}"))
 }
 
 fn main() -> ExitCode {
-    let thread = std::thread::Builder::new().stack_size(pcode::STACK).spawn(run);
-    match thread.and_then(|t| t.join().expect("it does not panic")) {
+    let thread = std::thread::Builder::new().stack_size(pcode::THREAD_STACK).spawn(run);
+    let result = match thread {
+        Ok(thread) => thread.join().expect("it does not panic"),
+        Err(e) => Err(format!("no thread: {e}")),
+    };
+    match result {
         Ok(true) => ExitCode::SUCCESS,
         Ok(false) => ExitCode::from(1),
         Err(e) => {
