@@ -51,8 +51,6 @@
 #ifndef PCODE_H
 #define PCODE_H
 
-#define PCODE_VERSION "1.0"
-
 #include <stdbool.h>
 #include <stddef.h>
 #include <stdint.h>

@@ -16,6 +16,8 @@ mod c {
         pub fn pcode_operand(word: u64, out: *mut u64);
         pub fn pcode_level(word: u64, out: *mut u64, height: *mut i64);
         pub fn pcode_label(word: u64, out: *mut u64);
+        pub fn pcode_action_name(action: usize, name: *mut u8, name_len: usize) -> usize;
+        pub fn pcode_line_column(text: *const u8, text_len: usize, at: usize, out: *mut u64);
     }
 }
 
@@ -126,4 +128,15 @@ pub fn label(word: u64) -> (usize, usize, usize) {
     let mut out = [0u64; 3];
     unsafe { c::pcode_label(word, out.as_mut_ptr()) };
     (out[0] as usize, out[1] as usize, out[2] as usize)
+}
+
+/// The length of an action's name, which is written if there is room.
+pub fn action_name(action: usize, name: &mut [u8]) -> usize {
+    unsafe { c::pcode_action_name(action, name.as_mut_ptr(), name.len()) }
+}
+
+pub fn line_column(text: &[u8], at: usize) -> (u64, u64) {
+    let mut out = [0u64; 2];
+    unsafe { c::pcode_line_column(text.as_ptr(), text.len(), at, out.as_mut_ptr()) };
+    (out[0], out[1])
 }

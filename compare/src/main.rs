@@ -14,6 +14,7 @@
 //!   compare ORACLE sample FILE COUNT SEED         the oracle's answers in FILE1, FILE2, .. of 65,536 bytes, for crates/lex_replay
 //!   compare ORACLE sample-reading FILE COUNT SEED  the same for reading, for crates/read_replay, and what that program is to print
 //!   compare ordinary FILE SIZE SEED               an ordinary patch of about that many bytes
+//!   compare plain COUNT SEED                      names of actions, lines and columns, against plain Rust; no oracle
 //!   compare lexing FILE SECONDS                   lexing speed on one text
 //!   compare against-index SECONDS                 speed on labels that are made against the index
 //!   compare ORACLE bench SECONDS                  speed of both sides on ordinary patches and on labels; see compare/bench
@@ -24,6 +25,7 @@ mod listing;
 mod oracle;
 mod patches;
 mod places;
+mod plain;
 mod reading;
 mod recogniser;
 mod sampling;
@@ -290,6 +292,7 @@ fn main() {
             bench::lex(&std::fs::read(file).expect("the text"), seconds.parse().expect("seconds"));
             0
         }
+        ["plain", count, seed] => plain::compare(count.parse().expect("a count"), seed.parse().expect("a seed")),
         ["against-index", seconds] => {
             bench::against_index(seconds.parse().expect("seconds"));
             0
