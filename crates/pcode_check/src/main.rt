@@ -13,14 +13,7 @@ use reporting::print_name;
 fn print_ok(name: &[u8], c: Counts) {
     print_name(name);
     print_text(b": ok, ");
-    print_number(c.actions as u64);
-    print_text(b" actions, ");
-    print_number(c.operands as u64);
-    print_text(b" operands, ");
-    print_number(c.levels as u64);
-    print_text(b" levels, ");
-    print_number(c.labels as u64);
-    print_text(b" labels\n");
+    reporting::print_counts(c.actions, c.operands, c.levels, c.labels);
 }
 
 // An entry of each table but the tokens' takes two bytes of text or more, the top level none.

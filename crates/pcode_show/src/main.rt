@@ -1,26 +1,22 @@
-// pcode-show FILE..: what each file was read as.
+// Program `pcode-show FILE..`: what each file was read as, or where it is refused and what was expected there. The script pcode-show at
+// the root has the options and makes the exit status.
 use as2_pcode::Counts;
 use as2_pcode::Reading;
-use printing::print_number;
-use printing::print_refusal;
+use files::Input;
+use files::Outcome;
+use files::Tally;
 use printing::print_text;
+use reporting::print_name;
 
-fn print_counts(name: &[u8], c: Counts) {
+fn print_head(name: &[u8], c: Counts) {
     print_text(b"file  ");
-    print_text(name);
+    print_name(name);
     print_text(b": ");
-    print_number(c.actions as u64);
-    print_text(b" actions, ");
-    print_number(c.operands as u64);
-    print_text(b" operands, ");
-    print_number(c.levels as u64);
-    print_text(b" levels, ");
-    print_number(c.labels as u64);
-    print_text(b" labels\n");
+    reporting::print_counts(c.actions, c.operands, c.levels, c.labels);
 }
 
 // An entry of each table but the tokens' takes two bytes of text or more, the top level none.
-fn show_text(name: &[u8], text: &[u8]) {
+fn show_text(name: &[u8], text: &[u8]) -> Outcome {
     let mut tokens = [0u64; 65536];
     let mut actions = [0u64; 32769];
     let mut operands = [0u64; 32769];
@@ -36,49 +32,59 @@ fn show_text(name: &[u8], text: &[u8]) {
     );
     match reading {
         Reading::Read(c) => {
-            print_counts(name, c);
+            print_head(name, c);
             showing::print_shown(text, &tokens, &actions, &operands, &levels, &labels, c);
+            Outcome::Read
         }
         Reading::Refused(r) => {
-            print_text(name);
-            print_text(b": ");
-            print_refusal(r);
-            print_text(b"\n");
+            reporting::print_refused(name, text, &mut tokens, r);
+            Outcome::Refused
         }
     }
 }
 
-fn show_file(name: &[u8]) {
-    let fd = os::open_read(name);
-    if fd < 0 {
-        os::fail(name);
-        return;
-    }
+// A text of one byte over the limit is enough to refuse it.
+fn show_file(name: &[u8]) -> Outcome {
     let mut text = [0u8; 65537];
-    let n = io::read_full(fd, &mut text);
-    libc::close(fd);
-    show_text(name, &text[..n]);
+    match files::read_file(b"pcode-show", name, &mut text) {
+        Input::Bytes(n) => show_text(name, views::part(&text, 0, n)),
+        Input::Failed => Outcome::Failed,
+    }
 }
 
-fn show_argument(i: usize) {
+fn show_argument(i: usize) -> Outcome {
     let mut name = io::buffer();
     let n = os::arg(i, &mut name);
     if os::errno() != 0 {
-        os::fail(b"the name of a file");
-        return;
+        files::say_unread(b"pcode-show", b"an argument");
+        return Outcome::Failed;
     }
-    show_file(&name[..n]);
+    show_file(&name[..n])
 }
 
-// An empty line parts two files; argument 0 is the program.
-fn main() {
-    let count = os::arg_count();
+// An empty line parts two files.
+fn print_gap(i: usize) {
+    if 1 < i {
+        print_text(b"\n");
+    }
+}
+
+// The arguments from 1 on: argument 0 is the program.
+fn show_arguments(count: usize) -> Tally {
+    let mut refused: u64 = 0;
+    let mut failed: u64 = 0;
     let mut i = 1;
     while i < count {
-        if 1 < i {
-            print_text(b"\n");
-        }
-        show_argument(i);
+        print_gap(i);
+        let outcome = show_argument(i);
+        refused += files::one_if_refused(outcome);
+        failed += files::one_if_failed(outcome);
         i += 1;
     }
+    Tally { refused, failed }
+}
+
+fn main() {
+    let t = show_arguments(os::arg_count());
+    files::tell_status(files::status_of(t));
 }

@@ -1,4 +1,4 @@
-// What a program says of a refused text: where, what that means, and the line with a mark under the place.
+// What a program says of a text: how much was read; or where it is refused, what that means, and the line with a mark under the place.
 use answers::Refusal;
 use lexer::Lexing;
 use libc::STDOUT_FILENO;
@@ -11,6 +11,17 @@ pub fn print_name(name: &[u8]) {
         return;
     }
     views::print_name(STDOUT_FILENO, name);
+}
+
+pub fn print_counts(actions: usize, operands: usize, levels: usize, labels: usize) {
+    print_number(actions as u64);
+    print_text(b" actions, ");
+    print_number(operands as u64);
+    print_text(b" operands, ");
+    print_number(levels as u64);
+    print_text(b" levels, ");
+    print_number(labels as u64);
+    print_text(b" labels\n");
 }
 
 // The byte to mark: rows 6 and 7 name a token.

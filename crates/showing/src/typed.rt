@@ -4,42 +4,20 @@ use columns::put_byte;
 use scanner::byte_at;
 use tokens::Token;
 
-// Whether a control character starts here; those from U+0080 on have a first byte of 194.
-fn is_control(s: &[u8], i: usize) -> bool {
-    match byte_at(s, i) {
-        0..=31 => true,
-        127 => true,
-        194 => is_high_control(s, i),
-        _ => false,
+// A tab would part columns, so it is shown as `?` too. 0 stands for nothing.
+fn typed_byte(s: &[u8], i: usize) -> u8 {
+    if byte_at(s, i) == b'\t' {
+        return b'?';
     }
-}
-
-fn is_high_control(s: &[u8], i: usize) -> bool {
-    if s.len() <= i {
-        return false;
-    }
-    byte_at(s, i + 1) < 160
-}
-
-// Whether a byte is the second one of a control character.
-fn ends_control(s: &[u8], i: usize) -> bool {
-    if i == 0 {
-        return false;
-    }
-    if byte_at(s, i - 1) != 194 {
-        return false;
-    }
-    byte_at(s, i) < 160
+    views::shown_byte(s, i)
 }
 
 fn put_shown(out: &mut [u8; 4096], c: Cursor, s: &[u8], i: usize) -> Cursor {
-    if is_control(s, i) {
-        return put_byte(out, c, b'?');
-    }
-    if ends_control(s, i) {
+    let b = typed_byte(s, i);
+    if b == 0 {
         return c;
     }
-    put_byte(out, c, byte_at(s, i))
+    put_byte(out, c, b)
 }
 
 // The span of a string has its quotes.

@@ -1,4 +1,4 @@
-// What the programs show of a text: a line with a mark under a place, or all of it. Control characters are shown as `?`; after the
+// What the programs show of a text: a line with a mark under a place; of a file, its name. Control characters are shown as `?`; after the
 // place of a mark they end the line.
 use libc::STDOUT_FILENO;
 use scanner::byte_at;
@@ -103,7 +103,7 @@ fn ends_control(text: &[u8], i: usize) -> bool {
 }
 
 // What is shown for a byte; 0 stands for nothing.
-fn shown_byte(text: &[u8], i: usize) -> u8 {
+pub fn shown_byte(text: &[u8], i: usize) -> u8 {
     if is_control(text, i) {
         return b'?';
     }
@@ -199,11 +199,6 @@ fn print_row(fd: i32, text: &[u8], row: Row) {
         print_bytes(fd, text, from, from + size, row);
         rest -= size;
     }
-}
-
-// A text with each of its control characters as `?`.
-pub fn print_visible(text: &[u8]) {
-    print_row(STDOUT_FILENO, text, Row::Shown);
 }
 
 // The name of a file, to standard output or standard error. A name can be any bytes.
