@@ -1,10 +1,10 @@
 // The sentences: what was expected in an action, by its shape, the number of the operand and what stands there. docs/FORMAT.md lists
 // them.
-use crate::Wanted;
 use crate::stands::Stands;
-use crate::wanted_at;
 use printing::print_text;
 use shapes::Shape;
+use wanted::Wanted;
+use wanted::wanted_at;
 
 pub enum Sentence {
     // in an action

@@ -1,9 +1,9 @@
--- `expected::wanted_of_pair` meets its contract. Assumes nothing.
+-- `wanted::wanted_of_pair` meets its contract. Assumes nothing.
 use borrow.Author.Needs.{needs}
 use mathlib.Core.Path.{sym, _∙_}
-use Rattle.expected.proofs.Numbered.{register, parameter}
-use Rattle.expected.proofs.wanted_of_pair.Statement.{statement}
-use Rattle.expected.proofs.wanted_of_pair.Tie as tie
+use Rattle.wanted.proofs.Numbered.{register, parameter}
+use Rattle.wanted.proofs.wanted_of_pair.Statement.{statement}
+use Rattle.wanted.proofs.wanted_of_pair.Tie as tie
 
 pub wanted-of-pair-spec : {M : Type 1} → statement M
 wanted-of-pair-spec =

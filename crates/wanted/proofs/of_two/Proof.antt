@@ -1,9 +1,9 @@
--- `expected::of_two` meets its contract. Assumes nothing.
+-- `wanted::of_two` meets its contract. Assumes nothing.
 use borrow.Author.Needs.{needs}
 use mathlib.Core.Path.{sym}
-use Rattle.expected.proofs.Numbered.{past-two}
-use Rattle.expected.proofs.of_two.Statement.{statement}
-use Rattle.expected.proofs.of_two.Tie as tie
+use Rattle.wanted.proofs.Numbered.{past-two}
+use Rattle.wanted.proofs.of_two.Statement.{statement}
+use Rattle.wanted.proofs.of_two.Tie as tie
 
 pub of-two-spec : {M : Type 1} → statement M
 of-two-spec =

@@ -1,10 +1,10 @@
--- `expected::wanted_at` meets its contract, arm by arm. Assumes nothing.
+-- `wanted::wanted_at` meets its contract, arm by arm. Assumes nothing.
 use borrow.Author.Needs.{needs}
 use mathlib.Core.Path.{_∙_}
-use Rattle.expected.proofs.Numbered.{of-shape}
-use Rattle.expected.specs.Wanted.{wantedAt}
-use Rattle.expected.proofs.wanted_at.Statement.{statement}
-use Rattle.expected.proofs.wanted_at.Tie as tie
+use Rattle.wanted.proofs.Numbered.{of-shape}
+use Rattle.wanted.specs.Wanted.{wantedAt}
+use Rattle.wanted.proofs.wanted_at.Statement.{statement}
+use Rattle.wanted.proofs.wanted_at.Tie as tie
 
 pub wanted-at-spec : {M : Type 1} → statement M
 unfolding wantedAt

@@ -1,13 +1,13 @@
--- `expected::wanted_of_function2` meets its contract. Assumes nothing.
+-- `wanted::wanted_of_function2` meets its contract. Assumes nothing.
 use borrow.Author.Needs.{needs}
 use mathlib.Core.Path.{sym, _∙_}
 use mathlib.Core.List.{[], _∷_, _++_}
 use lib.ListN.{replicate}
-use Rattle.expected.proofs.Numbered.{behind, front, flag, before-pairs}
-use Rattle.expected.specs.declared.Wanted.the-variants as W
-use Rattle.expected.specs.Wanted.{wantedAt, pairs}
-use Rattle.expected.proofs.wanted_of_function2.Statement.{statement}
-use Rattle.expected.proofs.wanted_of_function2.Tie as tie
+use Rattle.wanted.proofs.Numbered.{behind, front, flag, before-pairs}
+use Rattle.wanted.specs.declared.Wanted.the-variants as W
+use Rattle.wanted.specs.Wanted.{wantedAt, pairs}
+use Rattle.wanted.proofs.wanted_of_function2.Statement.{statement}
+use Rattle.wanted.proofs.wanted_of_function2.Tie as tie
 
 pub wanted-of-function2-spec : {M : Type 1} → statement M
 unfolding wantedAt

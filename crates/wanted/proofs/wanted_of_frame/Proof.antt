@@ -1,9 +1,9 @@
--- `expected::wanted_of_frame` meets its contract. Assumes nothing.
+-- `wanted::wanted_of_frame` meets its contract. Assumes nothing.
 use borrow.Author.Needs.{needs}
 use mathlib.Core.Path.{_∙_}
-use Rattle.expected.proofs.Numbered.{no-bias, some-bias}
-use Rattle.expected.proofs.wanted_of_frame.Statement.{statement}
-use Rattle.expected.proofs.wanted_of_frame.Tie as tie
+use Rattle.wanted.proofs.Numbered.{no-bias, some-bias}
+use Rattle.wanted.proofs.wanted_of_frame.Statement.{statement}
+use Rattle.wanted.proofs.wanted_of_frame.Tie as tie
 
 pub wanted-of-frame-spec : {M : Type 1} → statement M
 wanted-of-frame-spec =

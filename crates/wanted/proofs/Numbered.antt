@@ -6,9 +6,9 @@ use native.Mathlib.Omega.{arith}
 use lib.ListN.{length, getD, replicate, getD-replicate, length-replicate}
 use Rattle.laws.proofs.Rest.{rest, NoneBelow}
 use Rattle.shapes.specs.declared.Shape.{Shape}
-use Rattle.expected.specs.declared.Wanted.{Wanted}
-use Rattle.expected.specs.declared.Wanted.the-variants as W
-use Rattle.expected.specs.Wanted.{nth, pairs, bias, wantedAt}
+use Rattle.wanted.specs.declared.Wanted.{Wanted}
+use Rattle.wanted.specs.declared.Wanted.the-variants as W
+use Rattle.wanted.specs.Wanted.{nth, pairs, bias, wantedAt}
 
 pub past : (l : List Wanted) (n : ℕ) → length l ≤ n → nth l n ≡ W.Nothing
 past [] n h = refl

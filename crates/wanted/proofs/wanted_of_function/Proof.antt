@@ -1,14 +1,14 @@
--- `expected::wanted_of_function` meets its contract. Assumes nothing.
+-- `wanted::wanted_of_function` meets its contract. Assumes nothing.
 use borrow.Author.Needs.{needs}
 use mathlib.Core.Path.{sym, _∙_}
 use mathlib.Core.List.{[], _∷_}
 use lib.ListN.{replicate}
 use Rattle.laws.proofs.Rest.{rest}
-use Rattle.expected.proofs.Numbered.{behind}
-use Rattle.expected.specs.declared.Wanted.the-variants as W
-use Rattle.expected.specs.Wanted.{wantedAt}
-use Rattle.expected.proofs.wanted_of_function.Statement.{statement}
-use Rattle.expected.proofs.wanted_of_function.Tie as tie
+use Rattle.wanted.proofs.Numbered.{behind}
+use Rattle.wanted.specs.declared.Wanted.the-variants as W
+use Rattle.wanted.specs.Wanted.{wantedAt}
+use Rattle.wanted.proofs.wanted_of_function.Statement.{statement}
+use Rattle.wanted.proofs.wanted_of_function.Tie as tie
 
 pub wanted-of-function-spec : {M : Type 1} → statement M
 unfolding wantedAt
