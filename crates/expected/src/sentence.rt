@@ -241,11 +241,9 @@ fn print_comma_then(w: Wanted, stands: Stands) {
 }
 
 fn print_brace(stands: Stands) {
+    print_early(stands);
     match stands {
-        Stands::Newline => print_text(
-            b"the line ends too early: `{` was expected on the same line",
-        ),
-        Stands::End => print_text(b"the text ends too early: `{` was expected"),
+        Stands::Newline => print_text(b"`{` was expected on the same line"),
         _ => print_text(b"`{` was expected"),
     }
 }

@@ -1,7 +1,6 @@
 // The listing of a reading: document 01, the paragraph on `pcode-list`.
 use as2_pcode::Counts;
 use as2_pcode::Reading;
-use entries::Action;
 use entries::Label;
 use names::ActionName;
 use pcode::StackDelta;
@@ -10,36 +9,10 @@ use printing::print_refusal;
 use printing::print_signed;
 use printing::print_text;
 use tokens::raw_text;
-ghost use mathlib.Core.Path.{_≡_};
-ghost use Prim.Native.Nat.{_+_};
-ghost use Rattle.nets.specs.Nets.{firstIsEmpty};
-ghost use Rattle.pcode.specs.Deltas.{answer, deltaAnswer};
-
-// Whether there is a first operand and its raw text is empty: a function's name is its first operand.
-fn first_is_empty(text: &[u8], tokens: &[u64], operands: &[u64], a: Action) -> bool
-    ensures { λ r. ⌜ r ≡ firstIsEmpty (now (text .entry)) (now (tokens .entry)) (now (operands .entry)) (a .first) (a .first + a .count) ⌝ }
-{
-    if a.count == 0 {
-        return false;
-    }
-    let operand = entries::operand_in(operands, a.first);
-    let token = entries::token_in(tokens, operand.token);
-    let raw = raw_text(text, token);
-    raw.len() == 0
-}
 
 fn print_name(a: ActionName) {
     let letters = words::LETTERS;
     print_text(words::spelling(&letters, a));
-}
-
-// The delta of an action that stands in a reading: its operands are its values.
-fn delta_in(text: &[u8], tokens: &[u64], operands: &[u64], a: Action) -> StackDelta
-    ensures { λ r. ⌜ answer r ≡ deltaAnswer (a .name) (a .count) (firstIsEmpty (now (text .entry)) (now (tokens .entry)) (now (operands .entry)) (a .first) (a .first + a .count)) ⌝ }
-{
-    let name = a.name;
-    let empty = first_is_empty(text, tokens, operands, a);
-    pcode::delta(name, a.count, empty)
 }
 
 // Of an action that stands in a reading, only an undetermined delta is refused.
@@ -50,21 +23,22 @@ fn print_delta(d: StackDelta) {
     }
 }
 
-// Level, name, delta.
-fn print_action(text: &[u8], tokens: &[u64], operands: &[u64], a: Action) {
+// Level, name, delta of action i.
+fn print_action(text: &[u8], tokens: &[u64], actions: &[u64], operands: &[u64], i: usize) {
+    let a = entries::action_in(actions, i);
     let name = a.name;
     print_number(a.level as u64);
     print_text(b" ");
     print_name(name);
     print_text(b" ");
-    print_delta(delta_in(text, tokens, operands, a));
+    print_delta(lookups::delta_at(text, tokens, actions, operands, i));
     print_text(b"\n");
 }
 
 fn print_actions(text: &[u8], tokens: &[u64], actions: &[u64], operands: &[u64], n: usize) {
     let mut i = 0;
     while i < n {
-        print_action(text, tokens, operands, entries::action_in(actions, i));
+        print_action(text, tokens, actions, operands, i);
         i += 1;
     }
 }
