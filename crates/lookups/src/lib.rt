@@ -3,6 +3,7 @@ use pcode::StackDelta;
 use tokens::Span;
 ghost use mathlib.Core.Path.{_≡_};
 ghost use lib.ListN.{length, take, drop};
+ghost use Rattle.places.specs.Places.{lineAt};
 ghost use Rattle.tokens.specs.Tokens.{within, part as bytesIn};
 ghost use Rattle.pcode.specs.Deltas.{answer};
 ghost use Rattle.lookups.specs.Targets.{targetIn};
@@ -31,6 +32,21 @@ pub fn words_from(table: &[u64], first: usize, count: usize) -> &[u64]
     }
     let end = first + count;
     &table[first..end]
+}
+
+// The line of a byte, from the line of one before it: only what lies between is gone through.
+pub fn line_from(text: &[u8], from: usize, line: usize, to: usize) -> usize
+    requires { ⌜ line ≡ lineAt (now text) from ⌝ }
+    ensures { λ r. ⌜ r ≡ lineAt (now (text .entry)) to ⌝ }
+{
+    if to < from {
+        return places::line_at(text, to);
+    }
+    if text.len() < to {
+        return places::line_at(text, to);
+    }
+    let more = places::line_at(&text[from..], to - from);
+    line + (more - 1)
 }
 
 // The delta of action i.

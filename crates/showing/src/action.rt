@@ -3,6 +3,8 @@ use crate::layout::FACTS;
 use crate::layout::put_head;
 use crate::layout::put_name;
 use crate::operand::put_operand;
+use crate::place::Place;
+use crate::place::next_place;
 use columns::Cursor;
 use columns::put_byte;
 use columns::put_column;
@@ -11,65 +13,11 @@ use columns::put_signed;
 use columns::put_text;
 use entries::Action;
 use pcode::StackDelta;
-use tokens::Span;
-use tokens::TokenKind;
 
 // Where an action's line and its name start.
 const LINE: usize = 24;
 
 const NAME: usize = 35;
-
-// ---- the line that an action stands in
-
-// The action names up to a token are passed, and the last of them starts at a byte in a line.
-struct Place {
-    token: usize,
-    byte: usize,
-    line: usize,
-}
-
-fn is_action_name(word: u64) -> bool {
-    let token = tokens::token_of(word);
-    let kind = token.kind;
-    match kind {
-        TokenKind::ActionName(_) => true,
-        _ => false,
-    }
-}
-
-// The first token from `from` on that names an action.
-fn next_name(tokens: &[u64], from: usize) -> usize {
-    let mut i = from;
-    while i < tokens.len() {
-        if is_action_name(tokens[i]) {
-            return i;
-        }
-        i += 1;
-    }
-    i
-}
-
-// The line ends from one byte up to another.
-fn lines_between(text: &[u8], start: usize, end: usize) -> usize {
-    let between = lookups::part(text, Span { start, end });
-    places::line_at(between, between.len()) - 1
-}
-
-// Every action name of a reading is that of an action, in the same order. The sum is below the text's length.
-fn next_place(text: &[u8], tokens: &[u64], p: Place) -> Place {
-    let i = next_name(tokens, p.token);
-    if tokens.len() <= i {
-        return p;
-    }
-    let token = tokens::token_of(tokens[i]);
-    let span = token.span;
-    let more = lines_between(text, p.byte, span.start);
-    Place {
-        token: i + 1,
-        byte: span.start,
-        line: std::num::wrapping_add_usize(p.line, more),
-    }
-}
 
 // ---- an action
 

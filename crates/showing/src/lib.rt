@@ -3,6 +3,7 @@ mod action;
 mod layout;
 mod level;
 mod operand;
+mod place;
 mod typed;
 
 use as2_pcode::Counts;

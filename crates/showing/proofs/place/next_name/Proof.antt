@@ -1,9 +1,9 @@
--- `showing::action::next_name` ends: it counts up to the last token. Assumes nothing.
+-- `showing::place::next_name` ends: it counts up to the last token. Assumes nothing.
 use borrow.Author.Needs.{needs}
 use Prim.Native.Nat.{_-_}
 use lib.ListN.{length}
-use Rattle.showing.proofs.action.next_name.Statement.{statement}
-use Rattle.showing.proofs.action.next_name.Tie as tie
+use Rattle.showing.proofs.place.next_name.Statement.{statement}
+use Rattle.showing.proofs.place.next_name.Tie as tie
 
 abbrev Inv-loop : tie.InvT-loop
 Inv-loop tokens from i₀ i = Unit {0}
