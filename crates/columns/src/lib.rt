@@ -32,6 +32,7 @@ fn column_after(column: usize, b: u8) -> usize {
     column + 1
 }
 
+// A full buffer is printed, and filled anew.
 pub fn put_byte(out: &mut [u8; 4096], c: Cursor, b: u8) -> Cursor {
     let at = c.at;
     let column = column_after(c.column, b);
@@ -68,6 +69,7 @@ fn gap(at: usize, column: usize) -> usize
     left
 }
 
+// Spaces up to a column; what has run on past it is parted from what follows all the same.
 pub fn put_column(out: &mut [u8; 4096], c: Cursor, column: usize) -> Cursor {
     let n = gap(c.column, column);
     let mut c = c;
@@ -149,7 +151,7 @@ pub fn put_signed(out: &mut [u8; 4096], c: Cursor, n: i64) -> Cursor {
     put_integer(out, c, n)
 }
 
-// So many of a thing.
+// So many of a thing, `1 byte` and `2 bytes`.
 pub fn put_count(out: &mut [u8; 4096], c: Cursor, n: usize, what: &[u8]) -> Cursor {
     let c = put_number(out, c, n as u64);
     let c = put_byte(out, c, b' ');
