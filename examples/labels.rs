@@ -7,6 +7,7 @@
 //! A patch that is refused prints `refused N at P`, and `, line L, column C` where P is in the text; include/pcode.h tells what N and P
 //! mean. The exit status is 0 if the patch was read, 1 if it was refused, 2 if there was no patch to read or nowhere to print.
 
+use std::ffi::OsStr;
 use std::fs::File;
 use std::io::{self, Read, Write};
 use std::ops::Range;
@@ -144,7 +145,7 @@ fn list(text: &[u8], out: &mut impl Write) -> io::Result<bool> {
 }
 
 /// One byte more than the limit is all that has to be read of a text that is too long.
-fn input(file: Option<&str>) -> io::Result<Vec<u8>> {
+fn input(file: Option<&OsStr>) -> io::Result<Vec<u8>> {
     let mut text = Vec::new();
     let limit = pcode::MOST_BYTES as u64 + 1;
     match file {
@@ -156,12 +157,12 @@ fn input(file: Option<&str>) -> io::Result<Vec<u8>> {
 
 /// Lists the patch on standard output; an error says what failed.
 fn run() -> Result<bool, String> {
-    let mut args = std::env::args().skip(1);
+    let mut args = std::env::args_os().skip(1);
     let file = args.next();
     if args.next().is_some() {
         return Err("usage: labels [FILE]".into());
     }
-    let name = file.as_deref().unwrap_or("standard input");
+    let name = file.as_deref().map_or("standard input".into(), |name| name.to_string_lossy());
     let text = input(file.as_deref()).map_err(|e| format!("{name}: {e}"))?;
     let mut out = io::stdout().lock();
     list(&text, &mut out).and_then(|was_read| out.flush().map(|()| was_read)).map_err(|e| format!("standard output: {e}"))

@@ -5,7 +5,7 @@ mod stands;
 use classes::count_at;
 use names::ActionName;
 use sentence::Sentence;
-use sentence::at_line_end;
+use sentence::behind_brace;
 use sentence::print_sentence;
 use sentence::sentence_of;
 use shapes::Shape;
@@ -52,8 +52,8 @@ fn is_brace(tokens: &[u64], index: usize, is_opening: bool) -> bool {
     }
 }
 
-// Whether a block is open before a token: going back, a brace opens that no brace closed.
-fn is_open(tokens: &[u64], index: usize) -> bool {
+// The brace that opens the block around a token, or that a closing brace closes; the token itself where there is none.
+fn opening(tokens: &[u64], index: usize) -> usize {
     let mut closed: usize = 0;
     let mut i = index;
     while 0 < i {
@@ -66,11 +66,16 @@ fn is_open(tokens: &[u64], index: usize) -> bool {
             continue;
         }
         if closed == 0 {
-            return true;
+            return i;
         }
         closed -= 1;
     }
-    false
+    index
+}
+
+// Whether a block is open before a token.
+fn is_open(tokens: &[u64], index: usize) -> bool {
+    opening(tokens, index) != index
 }
 
 fn action_or_label(tokens: &[u64], index: usize) -> Sentence {
@@ -159,10 +164,70 @@ fn in_action(
     sentence_of(shape, behind / 2, behind % 2 == 1, given, stands)
 }
 
-fn sentence_at(text: &[u8], tokens: &[u64], index: usize, stands: Stands) -> Sentence {
-    if is_behind_brace(tokens, index) {
-        return at_line_end(stands);
+fn is_try(name: ActionName) -> bool {
+    match name {
+        ActionName::Try => true,
+        _ => false,
     }
+}
+
+// Whether the block that ends before a token is one that `catch` or `finally` may stand behind.
+fn takes_handler(tokens: &[u64], index: usize, is_catch: bool) -> bool {
+    if index == 0 {
+        return false;
+    }
+    let start = start_before(tokens, opening(tokens, index - 1));
+    let token = entries::token_in(tokens, start);
+    let kind = token.kind;
+    match kind {
+        TokenKind::ActionName(name) => is_try(name),
+        TokenKind::Catch => !is_catch,
+        _ => false,
+    }
+}
+
+// A new line helps only where what stands there may begin one.
+fn if_it_helps(tokens: &[u64], index: usize, s: Sentence) -> Sentence {
+    match s {
+        Sentence::LineBeforeBrace => if_so(is_open(tokens, index), s, Sentence::NotOpen),
+        Sentence::LineBeforeCatch => {
+            if_so(takes_handler(tokens, index, true), s, Sentence::HandlerAlone)
+        }
+        Sentence::LineBeforeFinally => {
+            if_so(takes_handler(tokens, index, false), s, Sentence::HandlerAlone)
+        }
+        _ => s,
+    }
+}
+
+fn if_so(is_so: bool, s: Sentence, otherwise: Sentence) -> Sentence {
+    if is_so { s } else { otherwise }
+}
+
+// Whether a token starts where the word before it ends: a name with a character that names do not have.
+fn cuts_name(text: &[u8], tokens: &[u64], index: usize) -> bool {
+    if index == 0 {
+        return false;
+    }
+    let token = entries::token_in(tokens, index - 1);
+    let kind = token.kind;
+    let span = token.span;
+    match kind {
+        TokenKind::Identifier => span.end == start_of(text, tokens, index),
+        _ => false,
+    }
+}
+
+// What makes no name where it stands directly behind a word.
+fn is_no_letter(stands: Stands) -> bool {
+    match stands {
+        Stands::Unknown | Stands::Quote => true,
+        Stands::Number | Stands::Digitless | Stands::Exponent => true,
+        _ => false,
+    }
+}
+
+fn sentence_behind(text: &[u8], tokens: &[u64], index: usize, stands: Stands) -> Sentence {
     let start = start_before(tokens, index);
     if start == index {
         return at_start(tokens, index, stands);
@@ -179,13 +244,27 @@ fn sentence_at(text: &[u8], tokens: &[u64], index: usize, stands: Stands) -> Sen
     }
 }
 
+fn sentence_at(text: &[u8], tokens: &[u64], index: usize, stands: Stands) -> Sentence {
+    if is_behind_brace(tokens, index) {
+        return behind_brace(stands);
+    }
+    if is_no_letter(stands) {
+        if cuts_name(text, tokens, index) {
+            return Sentence::NameCut;
+        }
+    }
+    sentence_behind(text, tokens, index, stands)
+}
+
 // What can stand nowhere is told whatever was expected.
 fn sentence_for(text: &[u8], tokens: &[u64], index: usize, stands: Stands) -> Sentence {
     match stands {
         Stands::Comment => Sentence::Comment,
+        Stands::Semicolon => Sentence::Semicolon,
+        Stands::Space => Sentence::Space,
         Stands::ByteOrderMark => Sentence::ByteOrderMark,
         Stands::Control => Sentence::Control,
-        _ => sentence_at(text, tokens, index, stands),
+        _ => if_it_helps(tokens, index, sentence_at(text, tokens, index, stands)),
     }
 }
 

@@ -13,6 +13,8 @@ pub enum Sentence {
     CommaThen(Wanted),
     CommaOrEnd,
     Brace,
+    BraceByCount,
+    BraceNoMore,
     LineEnd,
     NoOperands,
     NoMoreOperands,
@@ -32,7 +34,10 @@ pub enum Sentence {
     HandlerAlone,
     InsideBlock,
     // anywhere
+    NameCut,
     Comment,
+    Semicolon,
+    Space,
     ByteOrderMark,
     Control,
     Exponent,
@@ -61,10 +66,16 @@ fn is_nothing(w: Wanted) -> bool {
     }
 }
 
-// Where only the end of the line can stand.
-pub fn at_line_end(stands: Stands) -> Sentence {
+fn is_function(shape: Shape) -> bool {
+    match shape {
+        Shape::Function | Shape::Function2 => true,
+        _ => false,
+    }
+}
+
+// Behind a closing brace, where only the end of the line can stand.
+pub fn behind_brace(stands: Stands) -> Sentence {
     match stands {
-        Stands::Comma => Sentence::NoMoreOperands,
         Stands::OpenBrace => Sentence::NoBlock,
         Stands::CloseBrace => Sentence::LineBeforeBrace,
         Stands::Catch => Sentence::LineBeforeCatch,
@@ -74,10 +85,30 @@ pub fn at_line_end(stands: Stands) -> Sentence {
     }
 }
 
+// Behind the operands of an action, where only the end of the line can stand.
+fn at_line_end(stands: Stands) -> Sentence {
+    match stands {
+        Stands::Comma | Stands::Number | Stands::String => Sentence::NoMoreOperands,
+        Stands::Word | Stands::Beyond | Stands::Keyword => Sentence::NoMoreOperands,
+        Stands::Catch | Stands::Finally => Sentence::HandlerAlone,
+        _ => behind_brace(stands),
+    }
+}
+
+fn at_brace(shape: Shape, stands: Stands) -> Sentence {
+    let Stands::Comma = stands else {
+        return Sentence::Brace;
+    };
+    if is_function(shape) {
+        return Sentence::BraceByCount;
+    }
+    Sentence::BraceNoMore
+}
+
 // Behind all operands of an action.
 fn at_end(shape: Shape, stands: Stands) -> Sentence {
     if has_block(shape) {
-        return Sentence::Brace;
+        return at_brace(shape, stands);
     }
     at_line_end(stands)
 }
@@ -207,16 +238,23 @@ fn print_quote_hint(stands: Stands) {
         Stands::Word | Stands::Action | Stands::Quote => {
             print_text(b" (a string has double quotes)")
         }
+        Stands::Beyond => print_text(b" (registers go up to 255, constants to 65,535)"),
         _ => {}
+    }
+}
+
+fn print_target_hint(stands: Stands) {
+    match stands {
+        Stands::Newline => print_text(b" on the same line"),
+        _ => print_quote_hint(stands),
     }
 }
 
 fn print_hint(w: Wanted, stands: Stands) {
     match w {
         Wanted::Label => print_name_hint(stands),
-        Wanted::String | Wanted::Value | Wanted::Parameter | Wanted::Target => {
-            print_quote_hint(stands)
-        }
+        Wanted::String | Wanted::Value | Wanted::Parameter => print_quote_hint(stands),
+        Wanted::Target => print_target_hint(stands),
         _ => {}
     }
 }
@@ -255,6 +293,12 @@ pub fn print_sentence(s: Sentence, stands: Stands) {
         Sentence::CommaThen(w) => print_comma_then(w, stands),
         Sentence::CommaOrEnd => print_text(b"a comma or the end of the line was expected"),
         Sentence::Brace => print_brace(stands),
+        Sentence::BraceByCount => {
+            print_text(b"`{` was expected: the count says how many parameters there are")
+        }
+        Sentence::BraceNoMore => {
+            print_text(b"`{` was expected: this action takes no more operands")
+        }
         Sentence::LineEnd => print_text(b"the end of the line was expected"),
         Sentence::NoOperands => {
             print_text(b"the end of the line was expected: this action takes no operands")
@@ -286,7 +330,14 @@ pub fn print_sentence(s: Sentence, stands: Stands) {
             print_text(b"catch and finally stand behind a Try's block, each once and in this order")
         }
         Sentence::InsideBlock => { print_text(b"the text ends inside a block: `}` was expected") }
+        Sentence::NameCut => {
+            print_text(b"a name has the letters a to z, digits, _ and $, and nothing else")
+        }
         Sentence::Comment => print_text(b"there are no comments in a patch"),
+        Sentence::Semicolon => {
+            print_text(b"the end of the line ends an action, and there are no comments in a patch")
+        }
+        Sentence::Space => print_text(b"this is no plain space: type it again"),
         Sentence::ByteOrderMark => {
             print_text(b"a byte order mark cannot stand here: save the file without one")
         }

@@ -15,6 +15,8 @@ pub enum Stands {
     // a number whose exponent's digits run to the end of the text
     Exponent,
     Word,
+    // `register256`, `constant65536` and beyond, which are words like any other
+    Beyond,
     Action,
     // a word that has another meaning than an action's: `true`, `register1`, ..
     Keyword,
@@ -26,6 +28,8 @@ pub enum Stands {
     Finally,
     // an Unknown token, by its first character
     Comment,
+    Semicolon,
+    Space,
     Quote,
     ByteOrderMark,
     Control,
@@ -67,10 +71,27 @@ fn is_byte_order_mark(text: &[u8], at: usize) -> bool {
 
 // Whether a quote of another kind starts here, as a word processor makes them.
 fn is_curly_quote(text: &[u8], at: usize) -> bool {
+    if has_character(text, at, 226, 128, 152) {
+        return true;
+    }
+    if has_character(text, at, 226, 128, 153) {
+        return true;
+    }
     if has_character(text, at, 226, 128, 156) {
         return true;
     }
     has_character(text, at, 226, 128, 157)
+}
+
+// A no-break space looks like a space and is none.
+fn is_other_space(text: &[u8], at: usize) -> bool {
+    if text.len() <= at {
+        return false;
+    }
+    if byte_at(text, at) != 194 {
+        return false;
+    }
+    byte_at(text, at + 1) == 160
 }
 
 // Whether `/` at this byte goes on as `//` or `/*`.
@@ -87,7 +108,7 @@ fn goes_on_as_comment(text: &[u8], at: usize) -> bool {
 // As comments start in other languages.
 fn is_comment(text: &[u8], at: usize) -> bool {
     match byte_at(text, at) {
-        b';' | b'#' => true,
+        b'#' => true,
         b'/' => goes_on_as_comment(text, at),
         _ => false,
     }
@@ -107,8 +128,14 @@ fn unknown_at(text: &[u8], at: usize) -> Stands {
     if is_control(text, at) {
         return Stands::Control;
     }
+    if byte_at(text, at) == b';' {
+        return Stands::Semicolon;
+    }
     if is_comment(text, at) {
         return Stands::Comment;
+    }
+    if is_other_space(text, at) {
+        return Stands::Space;
     }
     if is_other_quote(text, at) {
         return Stands::Quote;
@@ -135,6 +162,25 @@ fn number_at(text: &[u8], token: Token) -> Stands {
     Stands::Digitless
 }
 
+// Whether a word is `register` or `constant` with something behind it; both have eight letters.
+fn is_numbered(word: &[u8]) -> bool {
+    if word.len() <= 8 {
+        return false;
+    }
+    let front = views::part(word, 0, 8);
+    if words::same_word(front, b"register") {
+        return true;
+    }
+    words::same_word(front, b"constant")
+}
+
+fn word_at(text: &[u8], token: Token) -> Stands {
+    if is_numbered(tokens::raw_text(text, token)) {
+        return Stands::Beyond;
+    }
+    Stands::Word
+}
+
 pub fn stands_at(text: &[u8], tokens: &[u64], index: usize) -> Stands {
     if tokens.len() <= index {
         return Stands::End;
@@ -145,7 +191,7 @@ pub fn stands_at(text: &[u8], tokens: &[u64], index: usize) -> Stands {
         TokenKind::Newline => Stands::Newline,
         TokenKind::String => Stands::String,
         TokenKind::Float | TokenKind::Integer => number_at(text, token),
-        TokenKind::Identifier => Stands::Word,
+        TokenKind::Identifier => word_at(text, token),
         TokenKind::ActionName(_) => Stands::Action,
         TokenKind::Colon => Stands::Colon,
         TokenKind::Comma => Stands::Comma,

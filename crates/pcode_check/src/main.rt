@@ -79,8 +79,8 @@ fn check_arguments(count: usize) -> Tally {
 fn print_tally(t: Tally, count: usize) {
     print_number(t.refused);
     print_text(b" of ");
-    print_number(count as u64);
-    print_text(b" files refused");
+    reporting::print_count(count as u64, b"file");
+    print_text(b" refused");
     if 0 < t.failed {
         print_text(b", ");
         print_number(t.failed);

@@ -43,30 +43,35 @@ fn show_text(name: &[u8], text: &[u8]) -> Outcome {
     }
 }
 
+// An empty line parts two files.
+fn print_gap(is_first: bool) {
+    if !is_first {
+        print_text(b"\n");
+    }
+}
+
+fn show_next(name: &[u8], text: &[u8], is_first: bool) -> Outcome {
+    print_gap(is_first);
+    show_text(name, text)
+}
+
 // A text of one byte over the limit is enough to refuse it.
-fn show_file(name: &[u8]) -> Outcome {
+fn show_file(name: &[u8], is_first: bool) -> Outcome {
     let mut text = [0u8; 65537];
     match files::read_file(b"pcode-show", name, &mut text) {
-        Input::Bytes(n) => show_text(name, views::part(&text, 0, n)),
+        Input::Bytes(n) => show_next(name, views::part(&text, 0, n), is_first),
         Input::Failed => Outcome::Failed,
     }
 }
 
-fn show_argument(i: usize) -> Outcome {
+fn show_argument(i: usize, is_first: bool) -> Outcome {
     let mut name = io::buffer();
     let n = os::arg(i, &mut name);
     if os::errno() != 0 {
         files::say_unread(b"pcode-show", b"an argument");
         return Outcome::Failed;
     }
-    show_file(&name[..n])
-}
-
-// An empty line parts two files.
-fn print_gap(i: usize) {
-    if 1 < i {
-        print_text(b"\n");
-    }
+    show_file(&name[..n], is_first)
 }
 
 // The arguments from 1 on: argument 0 is the program.
@@ -75,8 +80,8 @@ fn show_arguments(count: usize) -> Tally {
     let mut failed: u64 = 0;
     let mut i = 1;
     while i < count {
-        print_gap(i);
-        let outcome = show_argument(i);
+        // nothing is printed of a file that cannot be read
+        let outcome = show_argument(i, i as u64 == failed + 1);
         refused += files::one_if_refused(outcome);
         failed += files::one_if_failed(outcome);
         i += 1;

@@ -13,15 +13,25 @@ pub fn print_name(name: &[u8]) {
     views::print_name(STDOUT_FILENO, name);
 }
 
+// So many of a thing.
+pub fn print_count(n: u64, what: &[u8]) {
+    print_number(n);
+    print_text(b" ");
+    print_text(what);
+    if n != 1 {
+        print_text(b"s");
+    }
+}
+
 pub fn print_counts(actions: usize, operands: usize, levels: usize, labels: usize) {
-    print_number(actions as u64);
-    print_text(b" actions, ");
-    print_number(operands as u64);
-    print_text(b" operands, ");
-    print_number(levels as u64);
-    print_text(b" levels, ");
-    print_number(labels as u64);
-    print_text(b" labels\n");
+    print_count(actions as u64, b"action");
+    print_text(b", ");
+    print_count(operands as u64, b"operand");
+    print_text(b", ");
+    print_count(levels as u64, b"level");
+    print_text(b", ");
+    print_count(labels as u64, b"label");
+    print_text(b"\n");
 }
 
 // The byte to mark: rows 6 and 7 name a token.
@@ -39,9 +49,9 @@ fn print_meaning(text: &[u8], tokens: &[u64], r: Refusal) {
     match r {
         Refusal::TooLong => print_text(b"longer than 65,536 bytes"),
         Refusal::NotUtf8(_) => print_text(b"not UTF-8"),
-        Refusal::LoneQuote(_) => print_text(b"a quote that opens nothing"),
+        Refusal::LoneQuote(_) => print_text(b"this quote opens a string that is not closed"),
         Refusal::CutCharacter(_) => {
-            print_text(b"an unclosed string ends in a character over one byte")
+            print_text(b"this string is not closed, and ends in a character over one byte")
         }
         Refusal::TokenTableShort(_) => print_text(b"too many tokens for this program"),
         Refusal::NotGrammatical(k) => expected::print_expected(text, tokens, k),
@@ -106,15 +116,8 @@ fn lexed(text: &[u8], tokens: &mut [u64]) -> usize {
     }
 }
 
-fn front(tokens: &[u64], n: usize) -> &[u64] {
-    if tokens.len() < n {
-        return &tokens[..0];
-    }
-    &tokens[0..n]
-}
-
 // Reports a refused text. A refused reading leaves the token table as it was, and the place may be a token: the text is lexed again.
 pub fn print_refused(name: &[u8], text: &[u8], tokens: &mut [u64], r: Refusal) {
     let n = lexed(text, tokens);
-    print_report(name, text, front(tokens, n), r);
+    print_report(name, text, lookups::words_from(tokens, 0, n), r);
 }

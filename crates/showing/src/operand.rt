@@ -78,7 +78,7 @@ fn put_target(out: &mut [u8; 4096], c: Cursor, t: Target) -> Cursor {
 }
 
 // An If's or a Jump's operand is a label, whatever it reads as elsewhere.
-pub fn takes_label(a: ActionName) -> bool {
+fn takes_label(a: ActionName) -> bool {
     let shape = shapes::shape_of(a);
     match shape {
         Shape::Identifier => true,

@@ -1,19 +1,10 @@
 // A token as it was typed, each control character shown as `?`.
 use columns::Cursor;
 use columns::put_byte;
-use scanner::byte_at;
 use tokens::Token;
 
-// A tab would part columns, so it is shown as `?` too. 0 stands for nothing.
-fn typed_byte(s: &[u8], i: usize) -> u8 {
-    if byte_at(s, i) == b'\t' {
-        return b'?';
-    }
-    views::shown_byte(s, i)
-}
-
 fn put_shown(out: &mut [u8; 4096], c: Cursor, s: &[u8], i: usize) -> Cursor {
-    let b = typed_byte(s, i);
+    let b = views::name_byte(s, i);
     if b == 0 {
         return c;
     }

@@ -103,7 +103,7 @@ fn ends_control(text: &[u8], i: usize) -> bool {
 }
 
 // What is shown for a byte; 0 stands for nothing.
-pub fn shown_byte(text: &[u8], i: usize) -> u8 {
+fn shown_byte(text: &[u8], i: usize) -> u8 {
     if is_control(text, i) {
         return b'?';
     }
@@ -133,9 +133,18 @@ fn ascii_byte(b: u8) -> u8 {
     }
 }
 
+// What is shown for a byte where a tab would part columns; 0 stands for nothing.
+pub fn name_byte(text: &[u8], i: usize) -> u8 {
+    if byte_at(text, i) == b'\t' {
+        return b'?';
+    }
+    shown_byte(text, i)
+}
+
 // What is written for each byte.
 enum Row {
     Shown,
+    Name,
     Ascii,
     Below,
 }
@@ -143,6 +152,7 @@ enum Row {
 fn byte_in(text: &[u8], i: usize, row: Row) -> u8 {
     match row {
         Row::Shown => shown_byte(text, i),
+        Row::Name => name_byte(text, i),
         Row::Ascii => ascii_byte(byte_at(text, i)),
         Row::Below => byte_below(text, i),
     }
@@ -207,7 +217,7 @@ pub fn print_name(fd: i32, name: &[u8]) {
         print_row(fd, name, Row::Ascii);
         return;
     }
-    print_row(fd, name, Row::Shown);
+    print_row(fd, name, Row::Name);
 }
 
 // What of a line is shown.

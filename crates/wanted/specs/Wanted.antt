@@ -77,3 +77,21 @@ abbrev pub givenBy : List Class → ℕ
 givenBy [] = 0
 givenBy (c ∷ []) = said c
 givenBy (c ∷ d ∷ cs) = said c + said d
+
+-- the shapes whose operands are as many as the classes say; the others may have more, or a Try one that is not there
+abbrev pub Fixed : Shape → Type 0
+Fixed S.Nothing = Unit {0}
+Fixed S.Values = ⊥
+Fixed S.Strings = ⊥
+Fixed S.StringString = Unit {0}
+Fixed S.BoolBoolU8 = Unit {0}
+Fixed S.U16 = Unit {0}
+Fixed S.BoolBoolMaybeU16 = Unit {0}
+Fixed S.String = Unit {0}
+Fixed S.Identifier = Unit {0}
+Fixed S.U8 = Unit {0}
+Fixed S.U16U8 = Unit {0}
+Fixed S.Function = Unit {0}
+Fixed S.Function2 = Unit {0}
+Fixed S.Block = Unit {0}
+Fixed S.Try = ⊥

@@ -1,8 +1,8 @@
--- `expected::is_open` ends: it counts down from the index. Assumes nothing.
+-- `expected::opening` ends: it counts down from the index. Assumes nothing.
 use borrow.Author.Needs.{needs}
 use Prim.Native.Nat.{_+_, _≤_}
-use Rattle.expected.proofs.is_open.Statement.{statement}
-use Rattle.expected.proofs.is_open.Tie as tie
+use Rattle.expected.proofs.opening.Statement.{statement}
+use Rattle.expected.proofs.opening.Tie as tie
 
 abbrev Inv-loop : tie.InvT-loop
 Inv-loop tokens index closed₀ i₀ closed i = closed + i ≤ index
@@ -10,8 +10,8 @@ Inv-loop tokens index closed₀ i₀ closed i = closed + i ≤ index
 abbrev μ-loop : tie.MeasureT-loop
 μ-loop tokens index closed₀ i₀ closed i = i
 
-pub is-open-spec : {M : Type 1} → statement M
-is-open-spec =
+pub opening-spec : {M : Type 1} → statement M
+opening-spec =
     tie.close
     (tie.spec
     Inv-loop
