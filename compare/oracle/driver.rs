@@ -324,7 +324,9 @@ fn work() {
         }
         ["--accept"] => {
             each_text(|_, text| out.write_all(&[letter(text)]));
-            let _ = out.write_all(b"\n");
+            if let Err(e) = out.write_all(b"\n") {
+                fail(&format!("standard output: {e}"));
+            }
         }
         ["--bench", file, seconds] => bench(file, seconds),
         _ => fail("usage: rascal-oracle --dump < BATCH | --accept < BATCH | --bench FILE SECONDS"),

@@ -191,10 +191,18 @@ fn if_it_helps(tokens: &[u64], index: usize, s: Sentence) -> Sentence {
     match s {
         Sentence::LineBeforeBrace => if_so(is_open(tokens, index), s, Sentence::NotOpen),
         Sentence::LineBeforeCatch => {
-            if_so(takes_handler(tokens, index, true), s, Sentence::HandlerAlone)
+            if_so(
+                takes_handler(tokens, index, true),
+                s,
+                Sentence::HandlerAlone,
+            )
         }
         Sentence::LineBeforeFinally => {
-            if_so(takes_handler(tokens, index, false), s, Sentence::HandlerAlone)
+            if_so(
+                takes_handler(tokens, index, false),
+                s,
+                Sentence::HandlerAlone,
+            )
         }
         _ => s,
     }
