@@ -55,17 +55,17 @@ const WRITTEN: [Written; 9] = [
         end: 1,
     },
     Written {
-        kind: TokenKind::String,
+        kind: TokenKind::String(true),
         start: 0,
         end: 2,
     },
     Written {
-        kind: TokenKind::String,
+        kind: TokenKind::String(true),
         start: 65534,
         end: 65536,
     },
     Written {
-        kind: TokenKind::String,
+        kind: TokenKind::String(true),
         start: 0,
         end: 0,
     },

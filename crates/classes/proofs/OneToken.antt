@@ -67,7 +67,7 @@ integer-some I.Nothing v w h = h
 some-anyway : (k : TokenKind) (w : List ℕ) (a b : Span) → isSome (pushValue k w a) ≡ isSome (pushValue k w b)
 unfolding pushValue floatValue integerValue
 some-anyway K.Newline w a b = refl
-some-anyway K.String w a b = refl
+some-anyway (K.String c) w a b = refl
 some-anyway K.Float w a b = float-some (double w) a b
 some-anyway K.Integer w a b = integer-some (integer w) (doubleOrLong (double w) a) (doubleOrLong (double w) b) (float-some (double w) a b)
 some-anyway (K.Register n) w a b = refl

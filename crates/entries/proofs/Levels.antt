@@ -1,7 +1,7 @@
 -- Levels while they are read: what their word tells, and what it is with one action more. Assumes nothing.
 use mathlib.Core.Path.{_≡_, refl, sym, ap, subst, _∙_}
 use mathlib.Core.Bool.{Bool, true, false, cond}
-use mathlib.Core.List.{List}
+use mathlib.Core.List.{List, [], _∷_}
 use Prim.Native.Nat.{ℕ, zero, suc, _+_, _-_, _*_, _/_, _%_, _≤_, _<_}
 use native.Mathlib.Omega.{arith}
 use lib.Dec.{T, ltb}
@@ -15,9 +15,9 @@ use borrow.Author.Tests.{le-ltb, ltb-true, ltb-false}
 use Rattle.entries.specs.declared.Net.{Net}
 use Rattle.entries.specs.declared.Net.the-variants as N
 use Rattle.entries.specs.declared.Level.{Level}
-use Rattle.entries.specs.Entries.{blockNumber, partOf, blockOf, netNumber, netOf, levelWord, levelOf, ownerOf}
-use Rattle.entries.specs.Levels.{withAction, levelAt, Small, SmallNet, NetFits, SmallLevel}
-use Rattle.entries.proofs.Words.{net-small, level-back}
+use Rattle.entries.specs.Entries.{blockNumber, partOf, blockOf, netNumber, netOf, levelWord, levelWords, levelOf, levelAt, ownerOf}
+use Rattle.entries.specs.Levels.{withAction, Small, SmallNet, NetFits, SmallLevel}
+use Rattle.entries.proofs.Words.{level-back}
 
 -- ---- blocks
 
@@ -115,29 +115,28 @@ module _ (a : ℕ) (net : Net) (e : net ≡ N.Undetermined a) (n : NetFits net) 
   pub undetermined-number : (524288 + a ≡ netNumber net) × Small (524288 + a)
   undetermined-number = (sym (ap netNumber e), omega (arith, few-actions))
 
--- ---- a level's word
+-- ---- a level's words
 
-pub level-small : (w : ℕ) → SmallLevel (levelOf (w % 1152921504606846976))
-level-small w =
+pub level-small : (w v : ℕ) → SmallLevel (levelOf w v)
+level-small w v =
     record {
-      owner = owner-below (w % 1152921504606846976 / 1099511627776) (omega arith);
+      owner = owner-below (w / 1099511627776 % 1048576) (omega arith);
       actions = omega arith;
-      net = net-in (w % 1152921504606846976 % 1048576) (omega arith);
+      net = net-in (w % 1048576) (omega arith);
     }
 
-pub added : (table : List ℕ) (at w n : ℕ) (net : Net) → w ≡ getD table at 0 → n ≡ netNumber net
-    → (w % 1152921504606846976 / 1048576 + 1) * 1048576 + n ≡ levelWord (withAction net (levelAt table at))
-unfolding levelAt
-added table at w n net e f =
-    let v = getD table at 0 % 1152921504606846976 in
-    let b = number-back (v / 1099511627776) in
-    omega (arith, b, e, f)
+module _ (table : List ℕ) (at : ℕ) where
+  pub added : (w v n k : ℕ) (net : Net) → w ≡ getD table (2 * at) 0 → v ≡ getD table (2 * at + 1) 0 → n ≡ netNumber net
+      → ((w % 1152921504606846976 / 1048576 + 1) * 1048576 + n) ∷ (v % 1048576 + k) ∷ [] ≡ levelWords (withAction net k (levelAt table at))
+  unfolding levelAt
+  added w v n k net e f g =
+      let b = number-back (getD table (2 * at) 0 / 1099511627776 % 1048576) in
+      let first : (w % 1152921504606846976 / 1048576 + 1) * 1048576 + n ≡ levelWord (withAction net k (levelAt table at)) = omega (arith, b, e, g) in
+      λ j. first j ∷ (f j % 1048576 + k) ∷ []
 
--- a level that was written is read back
-pub read-back : (table : List ℕ) (at : ℕ) (l : Level) → getD table at 0 ≡ levelWord l → Small (blockNumber (l .block)) → Small (l .actions) → SmallNet (l .net)
-    → levelAt table at ≡ l
-unfolding levelAt
-read-back table at l e b a n =
-    let s = net-small (l .net) n in
-    let z : getD table at 0 % 1152921504606846976 ≡ levelWord l = omega (arith, e, b, a, s) in
-    ap levelOf z ∙ level-back l a n
+  -- a level that was written is read back
+  pub read-back : (l : Level) → getD table (2 * at) 0 ≡ levelWord l → getD table (2 * at + 1) 0 ≡ l .unclosed
+      → Small (blockNumber (l .block)) → Small (l .actions) → SmallNet (l .net) → Small (l .unclosed)
+      → levelAt table at ≡ l
+  unfolding levelAt
+  read-back l e f b a n u = (λ j. levelOf (e j) (f j)) ∙ level-back l b a n u

@@ -1,5 +1,6 @@
 -- Blocks and nets of a number, by what was tested; every entry comes back from its word. Assumes nothing.
 use mathlib.Core.Path.{_≡_, refl, sym, ap, subst, _∙_}
+use mathlib.Core.Bool.{Bool, true, false}
 use Prim.Native.Nat.{ℕ, zero, suc, _+_, _-_, _*_, _/_, _%_, _≤_, _<_}
 use native.Mathlib.Omega.{arith}
 use lib.IntN.{pos, negsuc, negℤ, _-ℤ_, subℕ}
@@ -116,21 +117,38 @@ action-back a h f k =
     let c : w % 131072 ≡ a .count = omega arith in
     simp (n, l, i, c, action-number (a .name))
 
-pub operand-back : (o : Operand) → o .token < 1099511627776 → operandOf (operandWord o) ≡ o
-operand-back o h =
-    let w = operandWord o in
-    let a : w / 1099511627776 ≡ o .action = omega arith in
-    let t : w % 1099511627776 ≡ o .token = omega arith in
-    simp (a, t)
+bit : (q r : ℕ) → r < 2 → (q * 2 + r) % 2 ≡ r
+bit q r h = omega arith
 
-pub level-back : (l : Level) → Small (l .actions) → SmallNet (l .net) → levelOf (levelWord l) ≡ l
-level-back l h r =
+pub operand-back : (o : Operand) → Small (o .action) → Small (o .token) → operandOf (operandWord o) ≡ o
+operand-back o h k = by (o .unclosed)
+  where
+    by : (b : Bool)
+        → operandOf (operandWord (record { action = o .action; token = o .token; unclosed = b })) ≡ record { action = o .action; token = o .token; unclosed = b }
+    by true =
+        let w = o .action * 1099511627776 + 1048576 + o .token in
+        let a : w / 1099511627776 % 1048576 ≡ o .action = omega arith in
+        let t : w % 1048576 ≡ o .token = omega arith in
+        let q : w / 1048576 ≡ o .action * 524288 * 2 + 1 = omega arith in
+        let u : w / 1048576 % 2 ≡ 1 = ap (λ n. n % 2) q ∙ bit (o .action * 524288) 1 (omega arith) in
+        simp (a, t, u)
+    by false =
+        let w = o .action * 1099511627776 + 0 + o .token in
+        let a : w / 1099511627776 % 1048576 ≡ o .action = omega arith in
+        let t : w % 1048576 ≡ o .token = omega arith in
+        let q : w / 1048576 ≡ o .action * 524288 * 2 + 0 = omega arith in
+        let u : w / 1048576 % 2 ≡ 0 = ap (λ n. n % 2) q ∙ bit (o .action * 524288) 0 (omega arith) in
+        simp (a, t, u)
+
+pub level-back : (l : Level) → Small (blockNumber (l .block)) → Small (l .actions) → SmallNet (l .net) → Small (l .unclosed) → levelOf (levelWord l) (l .unclosed) ≡ l
+level-back l g h r k =
     let s = net-small (l .net) r in
     let w = levelWord l in
-    let b : w / 1099511627776 ≡ blockNumber (l .block) = omega arith in
+    let b : w / 1099511627776 % 1048576 ≡ blockNumber (l .block) = omega arith in
     let c : w / 1048576 % 1048576 ≡ l .actions = omega arith in
     let n : w % 1048576 ≡ netNumber (l .net) = omega arith in
-    simp (b, c, n, block-back (l .block), net-back (l .net) r)
+    let u : l .unclosed % 1048576 ≡ l .unclosed = omega arith in
+    simp (b, c, n, u, block-back (l .block), net-back (l .net) r)
 
 low : (q r : ℕ) → r < 1048576 → ((q * 1048576 + r) / 1048576 ≡ q) × ((q * 1048576 + r) % 1048576 ≡ r)
 low q r h = (omega arith, omega arith)

@@ -1,8 +1,10 @@
--- The table word of each entry, and back. Callers see the structs alone.
-use mathlib.Core.Bool.{cond}
+-- The table word of each entry, of a level two, and back. Callers see the structs alone.
+use mathlib.Core.Bool.{Bool, cond}
+use mathlib.Core.List.{List, [], _∷_}
 use Prim.Native.Nat.{ℕ, zero, suc, _+_, _-_, _*_, _/_, _%_}
-use lib.Dec.{ltb}
+use lib.Dec.{eqb, ltb}
 use lib.IntN.{pos, negsuc, subℕ}
+use lib.ListN.{length, getD}
 use Rattle.actions.specs.Numbers.{actionAt, numberOf}
 use Rattle.entries.specs.declared.Action.{Action}
 use Rattle.entries.specs.declared.Operand.{Operand}
@@ -25,11 +27,14 @@ actionOf w =
       count = w % 131072;
     }
 
+abbrev pub unclosedBit : Bool → ℕ
+unclosedBit b = cond b 1048576 0
+
 abbrev pub operandWord : Operand → ℕ
-operandWord o = o .action * 1099511627776 + o .token
+operandWord o = o .action * 1099511627776 + unclosedBit (o .unclosed) + o .token
 
 abbrev pub operandOf : ℕ → Operand
-operandOf w = record { action = w / 1099511627776; token = w % 1099511627776 }
+operandOf w = record { action = w / 1099511627776 % 1048576; token = w % 1048576; unclosed = eqb (w / 1048576 % 2) 1 }
 
 abbrev pub blockNumber : Block → ℕ
 blockNumber B.Top = 0
@@ -65,11 +70,33 @@ ownerOf (B.Try a) = a
 ownerOf (B.Catch a) = a
 ownerOf (B.Finally a) = a
 
+-- a level's first word, and its two words
 abbrev pub levelWord : Level → ℕ
 levelWord l = blockNumber (l .block) * 1099511627776 + l .actions * 1048576 + netNumber (l .net)
 
-abbrev pub levelOf : ℕ → Level
-levelOf w = record { block = blockOf (w / 1099511627776); actions = w / 1048576 % 1048576; net = netOf (w % 1048576) }
+abbrev pub levelWords : Level → List ℕ
+levelWords l = levelWord l ∷ l .unclosed ∷ []
+
+abbrev pub levelOf : ℕ → ℕ → Level
+levelOf w v =
+    record {
+      block = blockOf (w / 1099511627776 % 1048576);
+      actions = w / 1048576 % 1048576;
+      net = netOf (w % 1048576);
+      unclosed = v % 1048576;
+    }
+
+-- level k stands in words 2k and 2k + 1 of its table
+unfoldable pub levelAt : List ℕ → ℕ → Level
+levelAt table k = levelOf (getD table (2 * k) 0) (getD table (2 * k + 1) 0)
+
+-- the places of a level table; a last word alone is none
+abbrev pub levelPlaces : List ℕ → ℕ
+levelPlaces table = length table / 2
+
+-- past them the level of two words 0
+unfoldable pub levelIn : List ℕ → ℕ → Level
+levelIn table k = cond (ltb k (levelPlaces table)) (levelAt table k) (levelOf 0 0)
 
 abbrev pub labelWord : Label → ℕ
 labelWord l = l .level * 1099511627776 + l .position * 1048576 + l .token

@@ -1,8 +1,6 @@
--- Levels while they are read: a level's word stands in its table from its brace on. No public contract cites this file.
-use Prim.Native.Nat.{ℕ, _+_, _%_, _<_}
-use mathlib.Core.List.{List}
+-- Levels while they are read: a level's words stand in its table from its brace on. No public contract cites this file.
+use Prim.Native.Nat.{ℕ, _+_, _<_}
 use lib.IntN.{pos, negsuc}
-use lib.ListN.{getD}
 use Rattle.entries.specs.declared.Action.{Action}
 use Rattle.entries.specs.declared.Operand.{Operand}
 use Rattle.entries.specs.declared.Block.{Block}
@@ -10,19 +8,15 @@ use Rattle.entries.specs.declared.Net.{Net}
 use Rattle.entries.specs.declared.Net.the-variants as N
 use Rattle.entries.specs.declared.Level.{Level}
 use Rattle.entries.specs.declared.Label.{Label}
-use Rattle.entries.specs.Entries.{levelOf, ownerOf}
+use Rattle.entries.specs.Entries.{ownerOf}
 
 -- a level before its first action
 abbrev pub fresh : Block → Level
-fresh b = record { block = b; actions = 0; net = N.Height (pos 0) }
+fresh b = record { block = b; actions = 0; net = N.Height (pos 0); unclosed = 0 }
 
--- one action more, and the net behind it
-abbrev pub withAction : Net → Level → Level
-withAction n l = record { block = l .block; actions = l .actions + 1; net = n }
-
--- the level at a place; of its word the sixty bits that are ever written count
-unfoldable pub levelAt : List ℕ → ℕ → Level
-levelAt table at = levelOf (getD table at 0 % 1152921504606846976)
+-- one action more, the net behind it, and k unclosed strings more
+abbrev pub withAction : Net → ℕ → Level → Level
+withAction n k l = record { block = l .block; actions = l .actions + 1; net = n; unclosed = l .unclosed + k }
 
 -- a number that a field of twenty bits holds, and one of seventeen, as an action's fields are
 abbrev pub Small : ℕ → Type 0

@@ -1,16 +1,18 @@
-// The entries of the tables that reading fills: one number for each, and the structs made of them.
+// The entries of the tables that reading fills: one number for each, for a level two, and the structs made of them.
 use actions::action_at;
 use actions::action_number;
 use names::ActionName;
 use tokens::Token;
 use tokens::token_of;
 ghost use mathlib.Core.Path.{_≡_};
-ghost use Prim.Native.Nat.{_-_, _≤_};
+ghost use mathlib.Core.List.{[], _∷_};
+ghost use Prim.Native.Nat.{_*_, _-_, _≤_};
 ghost use Rattle.tokens.specs.Tokens.{tokenOf};
 ghost use lib.ListN.{getD, set};
+ghost use lib.Seq.{sets};
 ghost use Rattle.entries.specs.declared.Block.the-variants as B;
-ghost use Rattle.entries.specs.Entries.{actionWord, actionOf, operandWord, operandOf, blockNumber, partOf, blockOf, netNumber, netOf, levelWord, levelOf, labelWord, labelOf, ownerOf};
-ghost use Rattle.entries.specs.Levels.{fresh, withAction, levelAt, Small, NetFits, SmallLevel, ActionFits, OperandFits, LabelFits};
+ghost use Rattle.entries.specs.Entries.{actionWord, actionOf, unclosedBit, operandWord, operandOf, blockNumber, partOf, blockOf, netNumber, netOf, levelWords, levelOf, levelAt, levelIn, labelWord, labelOf, ownerOf};
+ghost use Rattle.entries.specs.Levels.{fresh, withAction, Small, NetFits, SmallLevel, ActionFits, OperandFits, LabelFits};
 
 // Its operands are `count` entries of the operand table, from `first` on.
 pub struct Action {
@@ -20,9 +22,11 @@ pub struct Action {
     pub count: usize,
 }
 
+// Unclosed is a string without its closing quote, and nothing else.
 pub struct Operand {
     pub action: usize,
     pub token: usize,
+    pub unclosed: bool,
 }
 
 // Which block of which action a level is; the top level is none.
@@ -40,11 +44,12 @@ pub enum Net {
     Undetermined(usize),
 }
 
-// Its own actions are counted, bodies not.
+// Its own actions are counted, and the unclosed strings among their operands; bodies not.
 pub struct Level {
     pub block: Block,
     pub actions: usize,
     pub net: Net,
+    pub unclosed: usize,
 }
 
 // The token is the first that names it, the position the last that it was given.
@@ -70,8 +75,9 @@ pub fn operand_of(word: u64) -> Operand
     ensures { λ r. ⌜ r ≡ operandOf word ⌝ }
 {
     Operand {
-        action: (word / 1099511627776) as usize,
-        token: (word % 1099511627776) as usize,
+        action: (word / 1099511627776 % 1048576) as usize,
+        token: (word % 1048576) as usize,
+        unclosed: word / 1048576 % 2 == 1,
     }
 }
 
@@ -102,15 +108,16 @@ fn net_of(number: u64) -> Net
     Net::Undetermined((number - 524288) as usize)
 }
 
-pub fn level_of(word: u64) -> Level
-    ensures { λ r. ⌜ r ≡ levelOf word ⌝ }
+pub fn level_of(word: u64, count: u64) -> Level
+    ensures { λ r. ⌜ r ≡ levelOf word count ⌝ }
 {
-    let block = block_of(word / 1099511627776);
+    let block = block_of(word / 1099511627776 % 1048576);
     let net = net_of(word % 1048576);
     Level {
         block,
         actions: (word / 1048576 % 1048576) as usize,
         net,
+        unclosed: (count % 1048576) as usize,
     }
 }
 
@@ -131,7 +138,7 @@ fn word_at(table: &[u64], at: usize) -> u64
     if at < table.len() { table[at] } else { 0 }
 }
 
-// ---- the entry at a place of a table; past its end that of the word 0
+// ---- the entry at a place of a table; past its end that of the word 0, for a level of two words 0
 
 pub fn token_in(table: &[u64], at: usize) -> Token
     ensures { λ r. ⌜ r ≡ tokenOf (getD (now (table .entry)) at 0) ⌝ }
@@ -152,9 +159,12 @@ pub fn operand_in(table: &[u64], at: usize) -> Operand
 }
 
 pub fn level_in(table: &[u64], at: usize) -> Level
-    ensures { λ r. ⌜ r ≡ levelOf (getD (now (table .entry)) at 0) ⌝ }
+    ensures { λ r. ⌜ r ≡ levelIn (now (table .entry)) at ⌝ }
 {
-    level_of(word_at(table, at))
+    if at < table.len() / 2 {
+        return level_of(table[2 * at], table[2 * at + 1]);
+    }
+    level_of(0, 0)
 }
 
 pub fn label_in(table: &[u64], at: usize) -> Label
@@ -189,14 +199,23 @@ pub fn put_action(table: &mut [u64], at: usize, action: Action)
     );
 }
 
+// The bit of an unclosed string.
+fn unclosed_bit(unclosed: bool) -> u64
+    ensures { λ r. ⌜ r ≡ unclosedBit unclosed ⌝ }
+    ensures { λ r. ⌜ r ≤ 1048576 ⌝ }
+{
+    if unclosed { 1048576 } else { 0 }
+}
+
 pub fn put_operand(table: &mut [u64], at: usize, operand: Operand)
     requires { ⌜ OperandFits operand ⌝ }
     ensures { λ _. ⌜ now (table .exit) ≡ set (now (table .entry)) at (operandWord operand) ⌝ }
 {
+    let bit = unclosed_bit(operand.unclosed);
     put(
         table,
         at,
-        operand.action as u64 * 1099511627776 + operand.token as u64,
+        operand.action as u64 * 1099511627776 + bit + operand.token as u64,
     );
 }
 
@@ -216,10 +235,19 @@ pub fn put_label(table: &mut [u64], at: usize, label: Label)
 
 // ---- levels, which stand in their table from their brace on; 196,608 is the number of the height 0
 
-pub fn open_top(table: &mut [u64])
-    ensures { λ _. ⌜ now (table .exit) ≡ set (now (table .entry)) 0 (levelWord (fresh B.Top)) ⌝ }
+// Level `at` takes words 2 * at and 2 * at + 1.
+fn put_level(table: &mut [u64], at: usize, word: u64, count: u64)
+    requires { ⌜ Small at ⌝ }
+    ensures { λ _. ⌜ now (table .exit) ≡ sets (now (table .entry)) (2 * at) (word ∷ count ∷ []) ⌝ }
 {
-    put(table, 0, 196608);
+    put(table, 2 * at, word);
+    put(table, 2 * at + 1, count);
+}
+
+pub fn open_top(table: &mut [u64])
+    ensures { λ _. ⌜ now (table .exit) ≡ sets (now (table .entry)) 0 (levelWords (fresh B.Top)) ⌝ }
+{
+    put_level(table, 0, 196608, 0);
 }
 
 // The number of an action's body, try, catch or finally block.
@@ -238,19 +266,20 @@ fn block_number(part: u64, action: usize) -> u64
 
 // A level at its opening brace: no action yet, height 0.
 pub fn open_level(table: &mut [u64], at: usize, part: u64, action: usize)
-    requires { ⌜ Small action ⌝ }
-    ensures { λ _. ⌜ now (table .exit) ≡ set (now (table .entry)) at (levelWord (fresh (partOf part action))) ⌝ }
+    requires { ⌜ Small at × Small action ⌝ }
+    ensures { λ _. ⌜ now (table .exit) ≡ sets (now (table .entry)) (2 * at) (levelWords (fresh (partOf part action))) ⌝ }
 {
     let block = block_number(part, action);
-    put(table, at, block * 1099511627776 + 196608);
+    put_level(table, at, block * 1099511627776 + 196608, 0);
 }
 
-// The level at a place of a table that is being written; past its end that of the word 0.
+// The level at a place of a table that is being written.
 pub fn level_at(table: &[u64], at: usize) -> Level
+    requires { ⌜ Small at ⌝ }
     ensures { λ r. ⌜ r ≡ levelAt (now (table .entry)) at ⌝ }
     ensures { λ r. ⌜ SmallLevel r ⌝ }
 {
-    level_of(word_at(table, at) % 1152921504606846976)
+    level_of(word_at(table, 2 * at), word_at(table, 2 * at + 1))
 }
 
 // The action that owns a block; the top level has none, and counts as owned by 0.
@@ -286,12 +315,18 @@ fn net_number(net: Net) -> u64
     }
 }
 
-// One action more in a level, and the net behind it.
-pub fn add_action(table: &mut [u64], at: usize, net: Net)
-    requires { ⌜ NetFits net ⌝ }
-    ensures { λ _. ⌜ now (table .exit) ≡ set (now (table .entry)) at (levelWord (withAction net (levelAt (now (table .entry)) at))) ⌝ }
+// One action more in a level, the net behind it, and the unclosed strings among its operands.
+pub fn add_action(table: &mut [u64], at: usize, net: Net, unclosed: usize)
+    requires { ⌜ Small at × (NetFits net × Small unclosed) ⌝ }
+    ensures { λ _. ⌜ now (table .exit) ≡ sets (now (table .entry)) (2 * at) (levelWords (withAction net unclosed (levelAt (now (table .entry)) at))) ⌝ }
 {
-    let kept = word_at(table, at) % 1152921504606846976 / 1048576;
+    let kept = word_at(table, 2 * at) % 1152921504606846976 / 1048576;
+    let before = word_at(table, 2 * at + 1) % 1048576;
     let number = net_number(net);
-    put(table, at, (kept + 1) * 1048576 + number);
+    put_level(
+        table,
+        at,
+        (kept + 1) * 1048576 + number,
+        before + unclosed as u64,
+    );
 }

@@ -189,7 +189,7 @@ pub fn stands_at(text: &[u8], tokens: &[u64], index: usize) -> Stands {
     let kind = token.kind;
     match kind {
         TokenKind::Newline => Stands::Newline,
-        TokenKind::String => Stands::String,
+        TokenKind::String(_) => Stands::String,
         TokenKind::Float | TokenKind::Integer => number_at(text, token),
         TokenKind::Identifier => word_at(text, token),
         TokenKind::ActionName(_) => Stands::Action,

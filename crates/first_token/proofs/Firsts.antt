@@ -41,7 +41,7 @@ module _ (s : List ℕ) (i b p e : ℕ) (ei : i ≡ digitsEnd s 1) (at : b ≡ g
   integer h = simp (← ei, ← at, ne-eqb b 46 h, ← ep, ← ee)
 
 module _ (s : List ℕ) (e b : ℕ) (ee : e ≡ stringStop s 1) (at : b ≡ getD s e 0) where
-  pub closed : b ≡ 34 → F.Token K.String (e + 1) ≡ stringAt s
+  pub closed : b ≡ 34 → F.Token (K.String true) (e + 1) ≡ stringAt s
   unfolding stringAt
   closed h = simp (← ee, ← at, eq-eqb b 34 h)
 
@@ -51,7 +51,7 @@ module _ (s : List ℕ) (e b : ℕ) (ee : e ≡ stringStop s 1) (at : b ≡ getD
     lone h = simp (← ee, ← at, ne-eqb b 34 n, eq-eqb e 1 h)
 
     module _ (m : e ≡ 1 → ⊥) (d : ℕ) (last : d ≡ getD s (e - 1) 0) where
-      pub unclosed : d < 128 → F.Token K.String e ≡ stringAt s
+      pub unclosed : d < 128 → F.Token (K.String false) e ≡ stringAt s
       unfolding stringAt
       unclosed h = simp (← ee, ← at, ne-eqb b 34 n, ne-eqb e 1 m, ← last, lt-ltb d 128 h)
 

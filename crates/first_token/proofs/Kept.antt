@@ -21,7 +21,7 @@ use Rattle.first_token.proofs.Firsts.{by-byte, either}
 
 -- a kind whose number fits its type; a string's span has room for both its bounds
 abbrev pub Kept : TokenKind → ℕ → Type 0
-Kept k m = InRange k × (isKind k K.String ≡ true → 2 ≤ m)
+Kept k m = InRange k × (isKind k (K.String true) ≡ true → 2 ≤ m)
 
 abbrev pub KeptFound : Found → Type 0
 KeptFound F.Blank = Unit {0}

@@ -1,5 +1,5 @@
 -- The token that a text starts with: document 01, 'Tokens', bullet by bullet.
-use mathlib.Core.Bool.{cond, _||_}
+use mathlib.Core.Bool.{true, false, cond, _||_}
 use mathlib.Core.List.{List}
 use Prim.Native.Nat.{ℕ, _+_, _-_}
 use lib.Dec.{eqb, ltb}
@@ -27,9 +27,9 @@ numberAt s =
 -- or row 4, its last character over one byte
 abbrev pub stringTo : List ℕ → ℕ → Found
 stringTo s e =
-    cond (eqb (getD s e 0) 34) (F.Token K.String (e + 1))
+    cond (eqb (getD s e 0) 34) (F.Token (K.String true) (e + 1))
     (cond (eqb e 1) F.LoneQuote
-    (cond (ltb (getD s (e - 1) 0) 128) (F.Token K.String e) F.CutCharacter))
+    (cond (ltb (getD s (e - 1) 0) 128) (F.Token (K.String false) e) F.CutCharacter))
 
 unfoldable pub stringAt : List ℕ → Found
 stringAt s = stringTo s (stringStop s 1)

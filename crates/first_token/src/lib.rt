@@ -50,13 +50,13 @@ fn string_at(s: &[u8]) -> Found
 {
     let e = scanner::string_stop(s, 1);
     if scanner::byte_at(s, e) == b'"' {
-        return Found::Token(TokenKind::String, e + 1);
+        return Found::Token(TokenKind::String(true), e + 1);
     }
     if e == 1 {
         return Found::LoneQuote;
     }
     if scanner::byte_at(s, e - 1) < 128 {
-        return Found::Token(TokenKind::String, e);
+        return Found::Token(TokenKind::String(false), e);
     }
     Found::CutCharacter
 }

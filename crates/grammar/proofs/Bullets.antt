@@ -1,5 +1,6 @@
 -- Texts for the other bullets of the grammar, and document 01's other bench texts on grammar: a second such claim. Assumes nothing.
 use mathlib.Core.Path.{refl}
+use mathlib.Core.Bool.{true}
 use mathlib.Core.List.{List, [], _∷_, _++_}
 use mathlib.Core.Option.{none, some}
 use Prim.Native.Nat.{ℕ, zero, suc}
@@ -52,11 +53,11 @@ bullets =
     ∷ reads (bytes "Push") (act A.Push 0 ∷ []) [] (top 1 (up 0) ∷ []) []
     ∷ reads (bytes "ConstantPool \"a\", \"\"")
     (act A.ConstantPool 0 ∷ [])
-    (op 0 1 K.String (bytes "a") (letters 1) ∷ op 0 3 K.String [] (letters 0) ∷ [])
+    (op 0 1 (K.String true) (bytes "a") (letters 1) ∷ op 0 3 (K.String true) [] (letters 0) ∷ [])
     (top 1 (up 0) ∷ [])
     []
     -- operands, none missing and none too many
-    ∷ reads (bytes "GetUrl \"a\", \"b\"") (act A.GetUrl 0 ∷ []) (op 0 1 K.String (bytes "a") (letters 1) ∷ op 0 3 K.String (bytes "b") (letters 1) ∷ []) (top 1 (up 0) ∷ []) []
+    ∷ reads (bytes "GetUrl \"a\", \"b\"") (act A.GetUrl 0 ∷ []) (op 0 1 (K.String true) (bytes "a") (letters 1) ∷ op 0 3 (K.String true) (bytes "b") (letters 1) ∷ []) (top 1 (up 0) ∷ []) []
     ∷ refuses (bytes "GetUrl \"a\" \"b\"") 6 2
     ∷ refuses (bytes "GetUrl2 true, false") 6 4
     ∷ reads (bytes "GotoFrame2 true, false, 7")
@@ -78,19 +79,19 @@ bullets =
     -- functions: the comma behind the count, and the pairs
     ∷ reads (bytes "DefineFunction \"f\", 2, \"a\", \"b\" {}")
     (act A.DefineFunction 0 ∷ [])
-    (op 0 1 K.String (bytes "f") (letters 1) ∷ op 0 3 K.Integer (bytes "2") (whole (pos 2)) ∷ op 0 5 K.String (bytes "a") (letters 1)
-    ∷ op 0 7 K.String (bytes "b") (letters 1) ∷ [])
+    (op 0 1 (K.String true) (bytes "f") (letters 1) ∷ op 0 3 K.Integer (bytes "2") (whole (pos 2)) ∷ op 0 5 (K.String true) (bytes "a") (letters 1)
+    ∷ op 0 7 (K.String true) (bytes "b") (letters 1) ∷ [])
     (top 1 (up 0) ∷ of 0 body 0 (up 0) ∷ [])
     []
     ∷ refuses (bytes "DefineFunction \"f\", 1 {}") 6 4
     ∷ refuses (bytes "DefineFunction \"f\", 0, {}") 6 4
     ∷ reads (bytes "DefineFunction2 \"\", 1, 2, true, true, true, true, true, true, true, true, true, 3, \"a\" {}")
     (act A.DefineFunction2 0 ∷ [])
-    (op 0 1 K.String [] (letters 0) ∷ op 0 3 K.Integer (bytes "1") (whole (pos 1)) ∷ op 0 5 K.Integer (bytes "2") (whole (pos 2))
+    (op 0 1 (K.String true) [] (letters 0) ∷ op 0 3 K.Integer (bytes "1") (whole (pos 1)) ∷ op 0 5 K.Integer (bytes "2") (whole (pos 2))
     ∷ op 0 7 K.True (bytes "true") (some P.True) ∷ op 0 9 K.True (bytes "true") (some P.True) ∷ op 0 11 K.True (bytes "true") (some P.True)
     ∷ op 0 13 K.True (bytes "true") (some P.True) ∷ op 0 15 K.True (bytes "true") (some P.True) ∷ op 0 17 K.True (bytes "true") (some P.True)
     ∷ op 0 19 K.True (bytes "true") (some P.True) ∷ op 0 21 K.True (bytes "true") (some P.True) ∷ op 0 23 K.True (bytes "true") (some P.True)
-    ∷ op 0 25 K.Integer (bytes "3") (whole (pos 3)) ∷ op 0 27 K.String (bytes "a") (letters 1) ∷ [])
+    ∷ op 0 25 K.Integer (bytes "3") (whole (pos 3)) ∷ op 0 27 (K.String true) (bytes "a") (letters 1) ∷ [])
     (top 1 (up 1) ∷ of 0 body 0 (up 0) ∷ [])
     []
     -- newlines: one behind an action, none before a brace, one before a handler
@@ -101,13 +102,13 @@ bullets =
     ∷ refuses (bytes "Try {}\nfinally {}\ncatch {}") 6 8
     ∷ reads (bytes "Try {}\n\ncatch {}\nfinally {}") (act A.Try 0 ∷ []) [] (top 1 (up 0) ∷ of 0 try 0 (up 0) ∷ of 0 catch 0 (up 0) ∷ of 0 finally 0 (up 0) ∷ []) []
     -- a target, kept and dropped
-    ∷ reads (bytes "Try \"e\" {}\ncatch {}") (act A.Try 0 ∷ []) (op 0 1 K.String (bytes "e") (letters 1) ∷ []) (top 1 (up 0) ∷ of 0 try 0 (up 0) ∷ of 0 catch 0 (up 0) ∷ []) []
+    ∷ reads (bytes "Try \"e\" {}\ncatch {}") (act A.Try 0 ∷ []) (op 0 1 (K.String true) (bytes "e") (letters 1) ∷ []) (top 1 (up 0) ∷ of 0 try 0 (up 0) ∷ of 0 catch 0 (up 0) ∷ []) []
     ∷ reads (bytes "Try \"e\" {}\nfinally {}") (act A.Try 0 ∷ []) [] (top 1 (up 0) ∷ of 0 try 0 (up 0) ∷ of 0 finally 0 (up 0) ∷ []) []
     -- labels: byte for byte, each level its own
     ∷ reads (bytes "b: A: a: A:") [] [] (top 0 (up 0) ∷ []) (at 0 0 (bytes "b") 0 ∷ at 0 2 (bytes "A") 0 ∷ at 0 4 (bytes "a") 0 ∷ [])
     ∷ reads (bytes "start: Push \"ok\", 3\nWith {\nTrace\ndone: }\nJump start\n")
     (act A.Push 0 ∷ act A.With 0 ∷ act A.Trace 1 ∷ act A.Jump 0 ∷ [])
-    (op 0 3 K.String (bytes "ok") (letters 2) ∷ op 0 5 K.Integer (bytes "3") (whole (pos 3)) ∷ op 3 17 K.Identifier (bytes "start") none ∷ [])
+    (op 0 3 (K.String true) (bytes "ok") (letters 2) ∷ op 0 5 K.Integer (bytes "3") (whole (pos 3)) ∷ op 3 17 K.Identifier (bytes "start") none ∷ [])
     (top 3 (up 1) ∷ of 1 body 1 (down 1) ∷ [])
     (at 0 0 (bytes "start") 0 ∷ at 1 12 (bytes "done") 1 ∷ [])
     ∷ reads (bytes "With {\nx: Add\n}\nx: Jump x\n")
@@ -136,8 +137,8 @@ bullets-told =
     six-told 3 0 refl refl refl
     also six-told 3 1 refl refl refl
     also read-told (action A.Push [] no-blocks done) refl refl refl refl refl
-    also read-told (action A.ConstantPool (lexeme 1 K.String (bytes "a") ∷ lexeme 3 K.String [] ∷ []) no-blocks done) refl refl refl refl refl
-    also read-told (action A.GetUrl (lexeme 1 K.String (bytes "a") ∷ lexeme 3 K.String (bytes "b") ∷ []) no-blocks done) refl refl refl refl refl
+    also read-told (action A.ConstantPool (lexeme 1 (K.String true) (bytes "a") ∷ lexeme 3 (K.String true) [] ∷ []) no-blocks done) refl refl refl refl refl
+    also read-told (action A.GetUrl (lexeme 1 (K.String true) (bytes "a") ∷ lexeme 3 (K.String true) (bytes "b") ∷ []) no-blocks done) refl refl refl refl refl
     also six-told 2 1 refl refl refl
     also six-told 4 0 refl refl refl
     also read-told (action A.GotoFrame2 (lexeme 1 K.True (bytes "true") ∷ lexeme 3 K.False (bytes "false") ∷ lexeme 5 K.Integer (bytes "7") ∷ []) no-blocks done) refl refl refl refl refl
@@ -148,20 +149,20 @@ bullets-told =
     also six-told 1 1 refl refl refl
     also read-told (action A.Push (lexeme 1 (K.Constant 0) (bytes "constant0") ∷ lexeme 3 (K.Register 255) (bytes "register255") ∷ []) no-blocks done) refl refl refl refl refl
     also six-told 1 1 refl refl refl
-    also read-told (action A.DefineFunction (lexeme 1 K.String (bytes "f") ∷ lexeme 3 K.Integer (bytes "2") ∷ lexeme 5 K.String (bytes "a") ∷ lexeme 7 K.String (bytes "b") ∷ []) (block body done no-blocks) done) refl refl refl refl refl
+    also read-told (action A.DefineFunction (lexeme 1 (K.String true) (bytes "f") ∷ lexeme 3 K.Integer (bytes "2") ∷ lexeme 5 (K.String true) (bytes "a") ∷ lexeme 7 (K.String true) (bytes "b") ∷ []) (block body done no-blocks) done) refl refl refl refl refl
     also six-told 4 2 refl refl refl
     also six-told 4 3 refl refl refl
-    also read-told (action A.DefineFunction2 (lexeme 1 K.String [] ∷ lexeme 3 K.Integer (bytes "1") ∷ lexeme 5 K.Integer (bytes "2") ∷ lexeme 7 K.True (bytes "true") ∷ lexeme 9 K.True (bytes "true") ∷ lexeme 11 K.True (bytes "true") ∷ lexeme 13 K.True (bytes "true") ∷ lexeme 15 K.True (bytes "true") ∷ lexeme 17 K.True (bytes "true") ∷ lexeme 19 K.True (bytes "true") ∷ lexeme 21 K.True (bytes "true") ∷ lexeme 23 K.True (bytes "true") ∷ lexeme 25 K.Integer (bytes "3") ∷ lexeme 27 K.String (bytes "a") ∷ []) (block body done no-blocks) done) refl refl refl refl refl
+    also read-told (action A.DefineFunction2 (lexeme 1 (K.String true) [] ∷ lexeme 3 K.Integer (bytes "1") ∷ lexeme 5 K.Integer (bytes "2") ∷ lexeme 7 K.True (bytes "true") ∷ lexeme 9 K.True (bytes "true") ∷ lexeme 11 K.True (bytes "true") ∷ lexeme 13 K.True (bytes "true") ∷ lexeme 15 K.True (bytes "true") ∷ lexeme 17 K.True (bytes "true") ∷ lexeme 19 K.True (bytes "true") ∷ lexeme 21 K.True (bytes "true") ∷ lexeme 23 K.True (bytes "true") ∷ lexeme 25 K.Integer (bytes "3") ∷ lexeme 27 (K.String true) (bytes "a") ∷ []) (block body done no-blocks) done) refl refl refl refl refl
     also six-told 1 1 refl refl refl
     also six-told 0 1 refl refl refl
     also six-told 1 3 refl refl refl
     also six-told 3 3 refl refl refl
     also six-told 8 3 refl refl refl
     also read-told (action A.Try [] (block try done (block catch done (block finally done no-blocks))) done) refl refl refl refl refl
-    also read-told (action A.Try (lexeme 1 K.String (bytes "e") ∷ []) (block try done (block catch done no-blocks)) done) refl refl refl refl refl
+    also read-told (action A.Try (lexeme 1 (K.String true) (bytes "e") ∷ []) (block try done (block catch done no-blocks)) done) refl refl refl refl refl
     also read-told (action A.Try [] (block try done (block finally done no-blocks)) done) refl refl refl refl refl
     also read-told (label (lexeme 0 K.Identifier (bytes "b")) (label (lexeme 2 K.Identifier (bytes "A")) (label (lexeme 4 K.Identifier (bytes "a")) (label (lexeme 6 K.Identifier (bytes "A")) done)))) refl refl refl refl refl
-    also read-told (label (lexeme 0 K.Identifier (bytes "start")) (action A.Push (lexeme 3 K.String (bytes "ok") ∷ lexeme 5 K.Integer (bytes "3") ∷ []) no-blocks (action A.With [] (block body (action A.Trace [] no-blocks (label (lexeme 12 K.Identifier (bytes "done")) done)) no-blocks) (action A.Jump (lexeme 17 K.Identifier (bytes "start") ∷ []) no-blocks done)))) refl refl refl refl refl
+    also read-told (label (lexeme 0 K.Identifier (bytes "start")) (action A.Push (lexeme 3 (K.String true) (bytes "ok") ∷ lexeme 5 K.Integer (bytes "3") ∷ []) no-blocks (action A.With [] (block body (action A.Trace [] no-blocks (label (lexeme 12 K.Identifier (bytes "done")) done)) no-blocks) (action A.Jump (lexeme 17 K.Identifier (bytes "start") ∷ []) no-blocks done)))) refl refl refl refl refl
     also read-told (action A.With [] (block body (label (lexeme 3 K.Identifier (bytes "x")) (action A.Add [] no-blocks done)) no-blocks) (label (lexeme 9 K.Identifier (bytes "x")) (action A.Jump (lexeme 12 K.Identifier (bytes "x") ∷ []) no-blocks done))) refl refl refl refl refl
     also read-told (action A.With [] (block body (action A.InitArray [] no-blocks done) no-blocks) (action A.SetMember [] no-blocks (action A.CallFunction [] no-blocks (action A.NewMethod [] no-blocks done)))) refl refl refl refl refl
     also read-told (nested 64) refl refl refl refl refl

@@ -44,13 +44,17 @@ pub record Netted : Type 0 where
   pub level : Level
   pub net : Net
 
--- the top level, with so many actions and its net
+-- the top level, with so many actions and its net, every string closed
 abbrev pub top : ℕ → Net → Netted
-top c n = record { level = record { owner = none; actions = c }; net = n }
+top c n = record { level = record { owner = none; actions = c; unclosed = 0 }; net = n }
 
 -- a block of action a
 abbrev pub of : ℕ → Part → ℕ → Net → Netted
-of a p c n = record { level = record { owner = some (record { action = a; part = p }); actions = c }; net = n }
+of a p c n = record { level = record { owner = some (record { action = a; part = p }); actions = c; unclosed = 0 }; net = n }
+
+-- a level with that many unclosed strings
+abbrev pub lacking : ℕ → Netted → Netted
+lacking k l = record { level = record { owner = l .level .owner; actions = l .level .actions; unclosed = k }; net = l .net }
 
 abbrev pub up : ℕ → Net
 up n = height (pos n)

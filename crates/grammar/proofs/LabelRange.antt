@@ -8,7 +8,7 @@ use lib.ListN.{length, getD}
 use Rattle.lexemes.specs.Lexemes.{Lexeme, raw, sameName}
 use Rattle.lexemes.proofs.Tests.{either}
 use Rattle.grammar.specs.Grammar.{Items, done, label, action}
-use Rattle.grammar.specs.Reading.{Reading, Level, Label, Opened, Reads, readingOf, opened, ownActions, place, ownLabels, labelsFrom}
+use Rattle.grammar.specs.Reading.{Reading, Level, Label, Opened, Reads, readingOf, opened, levelOf, ownActions, place, ownLabels, labelsFrom}
 
 pub record InRange (R : Reading) (l : Label) : Type 0 where
   pub inside : l .level < length (R .levels)
@@ -43,10 +43,6 @@ module _ (ℓ n : ℕ) where
 
 -- ---- the labels of all levels
 
--- the entry of a level, as in `readingOf`
-abbrev entry : Opened → Level
-entry o = record { owner = o .owner; actions = ownActions (o .items) }
-
 -- the label is in range for the levels from ℓ on: its level is the i-th of them
 record From (ℓ : ℕ) (levels : List Level) (l : Label) : Type 0 where
   i : ℕ
@@ -54,17 +50,17 @@ record From (ℓ : ℕ) (levels : List Level) (l : Label) : Type 0 where
   inside : i < length levels
   position : l .position ≤ getD (map (λ (v : Level). v .actions) levels) i 0
 
-from : (ls : List Opened) (ℓ : ℕ) (l : Label) → List·Memᴰ l (labelsFrom ℓ ls) → From ℓ (map entry ls) l
+from : (ls : List Opened) (ℓ : ℕ) (l : Label) → List·Memᴰ l (labelsFrom ℓ ls) → From ℓ (map levelOf ls) l
 from [] ℓ l m = absurd (List·Memᴰ·not-nil m)
 from (o ∷ ls) ℓ l m = ⊎-elim here (λ k. there (from ls (suc ℓ) l k)) (List·Memᴰ·append-cases (ownLabels ℓ 0 [] (o .items)) m)
   where
-    here : List·Memᴰ l (ownLabels ℓ 0 [] (o .items)) → From ℓ (map entry (o ∷ ls)) l
+    here : List·Memᴰ l (ownLabels ℓ 0 [] (o .items)) → From ℓ (map levelOf (o ∷ ls)) l
     here k =
         let n = ownActions (o .items) in
         let q = member ℓ n (own ℓ n (o .items) 0 [] (omega arith) tt) k in
         record { i = 0; level = omega arith; inside = omega arith; position = q .1 }
 
-    there : From (suc ℓ) (map entry ls) l → From ℓ (map entry (o ∷ ls)) l
+    there : From (suc ℓ) (map levelOf ls) l → From ℓ (map levelOf (o ∷ ls)) l
     there f = record { i = suc (f .i); level = omega arith; inside = omega arith; position = f .position }
 
 tree-range : (x : Items) (l : Label) → List·Memᴰ l (readingOf x .labels) → InRange (readingOf x) l

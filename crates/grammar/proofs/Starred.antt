@@ -1,5 +1,6 @@
 -- Document 01's starred bench texts: one claim of the written grammar and the token rules jointly. Assumes nothing.
 use mathlib.Core.Path.{refl}
+use mathlib.Core.Bool.{true, false}
 use mathlib.Core.List.{List, [], _∷_}
 use mathlib.Core.Option.{some}
 use lib.IntN.{pos, negℤ}
@@ -28,7 +29,7 @@ use Rattle.lexemes.specs.Events.{body}
 use Rattle.grammar.specs.Grammar.{done, label, action, no-blocks, block}
 use Rattle.grammar.specs.Reading.{readingOf}
 use Rattle.grammar.specs.Nets.{nets}
-use Rattle.grammar.proofs.Cases.{act, op, top, of, at, up, down, whole, double, letters, Case, reads, refuses, AllTold, no-more, _also_, read-told, six-told, lexing-told}
+use Rattle.grammar.proofs.Cases.{act, op, top, of, lacking, at, up, down, whole, double, letters, Case, reads, refuses, AllTold, no-more, _also_, read-told, six-told, lexing-told}
 
 -- text, actions, operands with their values, levels, labels; or text, refusal, place
 abbrev pub starred : List Case
@@ -50,10 +51,10 @@ starred =
     ∷ refuses (bytes "Push constant65536") 6 1
     ∷ reads (bytes "Push constant65535") (act A.Push 0 ∷ []) (op 0 1 (K.Constant 65535) (bytes "constant65535") (some (P.Constant 65535)) ∷ []) (top 1 (up 1) ∷ []) []
     ∷ refuses (bytes "\"") 3 0
-    ∷ reads (bytes "GotoLabel \"ab") (act A.GotoLabel 0 ∷ []) (op 0 1 K.String (bytes "a") (letters 1) ∷ []) (top 1 (up 0) ∷ []) []
+    ∷ reads (bytes "GotoLabel \"ab") (act A.GotoLabel 0 ∷ []) (op 0 1 (K.String false) (bytes "a") (letters 1) ∷ []) (lacking 1 (top 1 (up 0)) ∷ []) []
     ∷ reads (bytes "DefineFunction \"f\", -3 {}")
     (act A.DefineFunction 0 ∷ [])
-    (op 0 1 K.String (bytes "f") (letters 1) ∷ op 0 3 K.Integer (bytes "-3") (whole (negℤ (pos 3))) ∷ [])
+    (op 0 1 (K.String true) (bytes "f") (letters 1) ∷ op 0 3 K.Integer (bytes "-3") (whole (negℤ (pos 3))) ∷ [])
     (top 1 (up 0) ∷ of 0 body 0 (up 0) ∷ [])
     []
     ∷ refuses (bytes "With { Add }") 6 3
@@ -76,8 +77,8 @@ starred-told =
     also six-told 1 1 refl refl refl
     also read-told (action A.Push (lexeme 1 (K.Constant 65535) (bytes "constant65535") ∷ []) no-blocks done) refl refl refl refl refl
     also lexing-told 3 0 refl
-    also read-told (action A.GotoLabel (lexeme 1 K.String (bytes "a") ∷ []) no-blocks done) refl refl refl refl refl
-    also read-told (action A.DefineFunction (lexeme 1 K.String (bytes "f") ∷ lexeme 3 K.Integer (bytes "-3") ∷ []) (block body done no-blocks) done) refl refl refl refl refl
+    also read-told (action A.GotoLabel (lexeme 1 (K.String false) (bytes "a") ∷ []) no-blocks done) refl refl refl refl refl
+    also read-told (action A.DefineFunction (lexeme 1 (K.String true) (bytes "f") ∷ lexeme 3 K.Integer (bytes "-3") ∷ []) (block body done no-blocks) done) refl refl refl refl refl
     also six-told 3 1 refl refl refl
     also read-told (action A.With [] (block body (label (lexeme 2 K.Identifier (bytes "a")) done) no-blocks) done) refl refl refl refl refl
     also read-told (label (lexeme 0 K.Identifier (bytes "a")) (action A.Add [] no-blocks (label (lexeme 4 K.Identifier (bytes "a")) (action A.Pop [] no-blocks done)))) refl refl refl refl refl

@@ -6,7 +6,7 @@ use mathlib.Core.Option.{Option, none, some}
 use Prim.Native.Nat.{ℕ, suc, _+_}
 use lib.ListN.{length}
 use Rattle.names.specs.declared.ActionName.{ActionName}
-use Rattle.lexemes.specs.Lexemes.{Lexeme, raw, sameName}
+use Rattle.lexemes.specs.Lexemes.{Lexeme, raw, unclosed, sameName}
 use Rattle.lexemes.specs.Events.{Part}
 use Rattle.grammar.specs.Grammar.{Items, done, label, action, Blocks, no-blocks, block, Text}
 
@@ -24,10 +24,11 @@ pub record Owner : Type 0 where
   pub action : ℕ
   pub part : Part
 
--- the top level has no owner; bodies do not count
+-- the top level has no owner; actions and unclosed strings of bodies do not count
 pub record Level : Type 0 where
   pub owner : Option Owner
   pub actions : ℕ
+  pub unclosed : ℕ
 
 pub record Label : Type 0 where
   pub level : ℕ
@@ -47,6 +48,17 @@ abbrev pub ownActions : Items → ℕ
 ownActions done = 0
 ownActions (label t x) = ownActions x
 ownActions (action n os bs x) = suc (ownActions x)
+
+-- the strings without their closing quote among an action's operand entries
+abbrev pub unclosedIn : List Lexeme → ℕ
+unclosedIn [] = 0
+unclosedIn (t ∷ ts) = cond (unclosed t) 1 0 + unclosedIn ts
+
+-- 'each level counts the unclosed strings among its own actions' operands' (document 02)
+abbrev pub ownUnclosed : Items → ℕ
+ownUnclosed done = 0
+ownUnclosed (label t x) = ownUnclosed x
+ownUnclosed (action n os bs x) = unclosedIn os + ownUnclosed x
 
 abbrev mutual
   -- all actions, bodies counted
@@ -83,6 +95,9 @@ abbrev mutual
 -- the top level is 0
 abbrev pub opened : Items → List Opened
 opened x = record { owner = none; first = 0; items = x } ∷ openedOf 0 x
+
+abbrev pub levelOf : Opened → Level
+levelOf l = record { owner = l .owner; actions = ownActions (l .items); unclosed = ownUnclosed (l .items) }
 
 -- ---- actions, in written order, an outer action before its body
 
@@ -135,7 +150,7 @@ readingOf x =
     record {
       actions = map (λ (l : Acted). record { name = l .name; level = l .level }) (actedOf 0 1 x);
       operands = operandsFrom 0 (actedOf 0 1 x);
-      levels = map (λ (l : Opened). record { owner = l .owner; actions = ownActions (l .items) }) (opened x);
+      levels = map levelOf (opened x);
       labels = labelsFrom 0 (opened x);
     }
 

@@ -22,7 +22,7 @@ use Rattle.keywords.proofs.Prefixes.{small}
 
 -- no string, and what it carries is within its type
 abbrev pub Plain : TokenKind → Type 0
-Plain k = InRange k × (isKind k K.String ≡ false)
+Plain k = InRange k × (isKind k (K.String true) ≡ false)
 
 constant-plain : (x : Natural) (k : TokenKind) → ((n : ℕ) → x ≡ N.Is n → n ≤ 65535) → Plain k → Plain (constantOr x k)
 constant-plain (N.Is n) k f h = (omega (arith, f n refl), refl)

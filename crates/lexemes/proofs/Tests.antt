@@ -1,6 +1,6 @@
 -- Tests, and those of one token: what a test that holds says, and which tests shut each other out. Assumes nothing.
 use mathlib.Core.Path.{_≡_, refl, sym, ap, _∙_, subst}
-use mathlib.Core.Bool.{Bool, true, false, cond, not, _&&_, false≢true}
+use mathlib.Core.Bool.{Bool, true, false, cond, not, _&&_, _||_, false≢true}
 use mathlib.Core.Option.{some}
 use mathlib.Core.List.{List}
 use Prim.Native.Nat.{ℕ}
@@ -32,12 +32,15 @@ either P b x y h k = chosen P b x y (λ _. h) k
 -- ---- kinds
 
 -- a kind that carries nothing
+abbrev bareAt : ℕ → Bool
+bareAt n = not (eqb n 1 || (leb 4 n && leb n 6))
+
 abbrev pub bare : TokenKind → Bool
-bare k = not (leb 4 (codeOf k .place) && leb (codeOf k .place) 6)
+bare k = bareAt (codeOf k .place)
 
 known : (k : TokenKind) → bare k ≡ true → getD (kinds 0) (codeOf k .place) K.Unknown ≡ k
 known K.Newline h = refl
-known K.String h = refl
+known (K.String c) h = absurd (false≢true h)
 known K.Float h = refl
 known K.Integer h = refl
 known (K.Register n) h = absurd (false≢true h)
@@ -60,7 +63,7 @@ known K.Unknown h = refl
 pub kind-is : (k c : TokenKind) → isKind k c ≡ true → bare c ≡ true → k ≡ c
 kind-is k c h g =
     let e = eqb-true (codeOf k .place) (codeOf c .place) h in
-    sym (known k (subst (λ (n : ℕ). not (leb 4 n && leb n 6) ≡ true) (sym e) g)) ∙ ap (λ (n : ℕ). getD (kinds 0) n K.Unknown) e ∙ known c g
+    sym (known k (subst (λ (n : ℕ). bareAt n ≡ true) (sym e) g)) ∙ ap (λ (n : ℕ). getD (kinds 0) n K.Unknown) e ∙ known c g
 
 -- a token of the kind c is of no kind in another place
 pub other : (k c d : TokenKind) → isKind k c ≡ true → isKind c d ≡ false → isKind k d ≡ false

@@ -5,7 +5,7 @@ use Prim.Native.Nat.{ℕ, suc}
 use lib.Dec.{eqb}
 use Rattle.tokens.specs.declared.TokenKind.{TokenKind}
 use Rattle.tokens.specs.declared.Token.{Token}
-use Rattle.tokens.specs.Kinds.{isKind}
+use Rattle.tokens.specs.Kinds.{isKind, isUnclosed}
 use Rattle.tokens.specs.Tokens.{rawText}
 
 -- a token as the grammar sees it: its place in the list, its kind, its raw text
@@ -17,6 +17,10 @@ placeOf (lexeme i k w) = i
 
 abbrev pub raw : Lexeme → List ℕ
 raw (lexeme i k w) = w
+
+-- a string that lacks its closing quote
+abbrev pub unclosed : Lexeme → Bool
+unclosed (lexeme i k w) = isUnclosed k
 
 -- names compare byte for byte
 abbrev pub sameName : List ℕ → List ℕ → Bool

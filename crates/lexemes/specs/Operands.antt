@@ -48,7 +48,7 @@ valueOf (lexeme i k w) = pushValue k w (span 0 (length w))
 
 -- u8, u16 and i32 take Integer tokens that Rust parses
 abbrev pub isOperand : Class → Lexeme → Bool
-isOperand string (lexeme i k w) = isKind k K.String
+isOperand string (lexeme i k w) = isKind k (K.String true)
 isOperand value t = isSome (valueOf t)
 isOperand bool (lexeme i k w) = isKind k K.True || isKind k K.False
 isOperand onlyTrue (lexeme i k w) = isKind k K.True
@@ -56,7 +56,7 @@ isOperand onlyFalse (lexeme i k w) = isKind k K.False
 isOperand u8 (lexeme i k w) = isKind k K.Integer && isParsed (natural 255 w)
 isOperand u16 (lexeme i k w) = isKind k K.Integer && isParsed (natural 65535 w)
 isOperand identifier (lexeme i k w) = isKind k K.Identifier
-isOperand target (lexeme i k w) = isKind k K.String || isKind k (K.Register 0)
+isOperand target (lexeme i k w) = isKind k (K.String true) || isKind k (K.Register 0)
 isOperand (count n) (lexeme i k w) = isKind k K.Integer && actsAs n (integer w)
 
 -- the number that an i32 acts as, if it is one: `actsAs` as a function, for the machine alone

@@ -1,5 +1,6 @@
 -- Document 01's bench texts and others, with a table of 12 places: one claim of the definition, by computation. Assumes nothing.
 use mathlib.Core.Path.{_≡_, refl}
+use mathlib.Core.Bool.{true, false}
 use mathlib.Core.List.{List, [], _∷_, _++_, map}
 use Prim.Native.Nat.{ℕ, zero, suc}
 use Prim.Native.String.{String}
@@ -57,12 +58,12 @@ cases =
     ∷ (bytes "StoreRegister -0") gives accepted (act A.StoreRegister 0 13 ∷ tok K.Integer 14 16 ∷ [])
     ∷ (bytes "\"") gives refused 3 0
     ∷ (bytes "\"\n") gives refused 3 0
-    ∷ (bytes "GotoLabel \"ab") gives accepted (act A.GotoLabel 0 9 ∷ tok K.String 10 13 ∷ [])
+    ∷ (bytes "GotoLabel \"ab") gives accepted (act A.GotoLabel 0 9 ∷ tok (K.String false) 10 13 ∷ [])
     ∷ (bytes "GotoLabel \"" ++ accented) gives refused 4 10
     ∷ (bytes "\"" ++ accented ++ bytes "\" \"" ++ accented ++ bytes "\n\"") gives refused 4 5
-    ∷ (bytes "\"a\\\"b\\\\\" \"c\\d\"\r\n\"x\n") gives accepted (tok K.String 0 8 ∷ tok K.String 9 14 ∷ tok K.Newline 14 16 ∷ tok K.String 16 18 ∷ tok K.Newline 18 19 ∷ [])
-    ∷ (bytes "\"\\\n") gives accepted (tok K.String 0 2 ∷ tok K.Newline 2 3 ∷ [])
-    ∷ (bytes "DefineFunction \"f\", -3 {}") gives accepted (act A.DefineFunction 0 14 ∷ tok K.String 15 18 ∷ tok K.Comma 18 19 ∷ tok K.Integer 20 22 ∷ tok K.OpenBrace 23 24 ∷ tok K.CloseBrace 24 25 ∷ [])
+    ∷ (bytes "\"a\\\"b\\\\\" \"c\\d\"\r\n\"x\n") gives accepted (tok (K.String true) 0 8 ∷ tok (K.String true) 9 14 ∷ tok K.Newline 14 16 ∷ tok (K.String false) 16 18 ∷ tok K.Newline 18 19 ∷ [])
+    ∷ (bytes "\"\\\n") gives accepted (tok (K.String false) 0 2 ∷ tok K.Newline 2 3 ∷ [])
+    ∷ (bytes "DefineFunction \"f\", -3 {}") gives accepted (act A.DefineFunction 0 14 ∷ tok (K.String true) 15 18 ∷ tok K.Comma 18 19 ∷ tok K.Integer 20 22 ∷ tok K.OpenBrace 23 24 ∷ tok K.CloseBrace 24 25 ∷ [])
     ∷ (bytes "With { Add }") gives accepted (act A.With 0 4 ∷ tok K.OpenBrace 5 6 ∷ act A.Add 7 10 ∷ tok K.CloseBrace 11 12 ∷ [])
     ∷ (bytes "With { a: }") gives accepted (act A.With 0 4 ∷ tok K.OpenBrace 5 6 ∷ tok K.Identifier 7 8 ∷ tok K.Colon 8 9 ∷ tok K.CloseBrace 10 11 ∷ [])
     ∷ (bytes "a: Add\na: Pop") gives accepted (tok K.Identifier 0 1 ∷ tok K.Colon 1 2 ∷ act A.Add 3 6 ∷ tok K.Newline 6 7 ∷ tok K.Identifier 7 8 ∷ tok K.Colon 8 9 ∷ act A.Pop 10 13 ∷ [])

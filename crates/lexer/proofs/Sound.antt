@@ -35,8 +35,8 @@ abbrev pub AllWhole : ℕ → List Token → Type 0
 AllWhole n [] = Unit {0}
 AllWhole n (t ∷ ts) = Whole n t × AllWhole n ts
 
-raw-within : (n i e : ℕ) (k : TokenKind) → i ≤ e → e ≤ n → (isKind k K.String ≡ true → i + 2 ≤ e) → isWithin n (rawIn k (span i e)) ≡ true
-raw-within n i e k h g f = by (isKind k K.String) f
+raw-within : (n i e : ℕ) (k : TokenKind) → i ≤ e → e ≤ n → (isKind k (K.String true) ≡ true → i + 2 ≤ e) → isWithin n (rawIn k (span i e)) ≡ true
+raw-within n i e k h g f = by (isKind k (K.String true)) f
   where
     by : (t : Bool) → (t ≡ true → i + 2 ≤ e) → isWithin n (cond t (span (i + 1) (e - 1)) (span i e)) ≡ true
     by true f = let l = f refl in simp (le-leb (i + 1) (e - 1) (omega arith), le-leb (e - 1) n (omega arith))

@@ -167,7 +167,7 @@ digit = lexeme 0 K.Integer (48 ∷ [])
 
 -- an operand of each class
 abbrev one-of : Class → Lexeme
-one-of string = lexeme 0 K.String []
+one-of string = lexeme 0 (K.String true) []
 one-of value = lexeme 0 K.Null []
 one-of bool = lexeme 0 K.True []
 one-of onlyTrue = lexeme 0 K.True []
@@ -175,7 +175,7 @@ one-of onlyFalse = lexeme 0 K.False []
 one-of u8 = digit
 one-of u16 = digit
 one-of identifier = lexeme 0 K.Identifier []
-one-of target = lexeme 0 K.String []
+one-of target = lexeme 0 (K.String true) []
 one-of (count n) = digit
 
 one-fits : (c : Class) → plain-class c ≡ true → isOperand c (one-of c) ≡ true

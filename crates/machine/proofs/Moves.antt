@@ -60,7 +60,7 @@ tested {a = a} {t = t} b x y f g = chosen (λ (m : Move). Legal a t m) b x y f g
 
 at-word : (e : Nesting) (h : Handlers) (i : ℕ) (k : TokenKind) (w : List ℕ) → Legal (level e (item h)) (lexeme i k w) (on-word e (action-word k))
 at-word e h i K.Newline w = halts
-at-word e h i K.String w = halts
+at-word e h i (K.String c) w = halts
 at-word e h i K.Float w = halts
 at-word e h i K.Integer w = halts
 at-word e h i (K.Register n) w = halts

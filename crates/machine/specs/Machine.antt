@@ -81,7 +81,7 @@ start trying e = targets e ∷ []
 
 abbrev pub action-word : TokenKind → Option ActionName
 action-word K.Newline = none
-action-word K.String = none
+action-word (K.String c) = none
 action-word K.Float = none
 action-word K.Integer = none
 action-word (K.Register n) = none

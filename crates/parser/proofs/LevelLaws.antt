@@ -59,7 +59,7 @@ action-not text s a c room t k f i p e q o =
 
     stops : (x : Nesting) (j : TokenKind) → tokenOf (getD s (c .at) 0) .kind ≡ j → move (level x (item no-handlers)) (lexeme (c .at) j (rawText text (tokenOf (getD s (c .at) 0)))) ≡ stop
     stops x K.Newline z = absurd (p .not-newline (at-place K.Newline z))
-    stops x K.String z = refl
+    stops x (K.String c) z = refl
     stops x K.Float z = refl
     stops x K.Integer z = refl
     stops x (K.Register n) z = refl

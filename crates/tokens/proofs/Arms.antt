@@ -31,7 +31,7 @@ key-there (k ∷ j ∷ ks) x (inr h) = or-right (eqb k x) _ (key-there (j ∷ ks
 
 tag-place : (k : TokenKind) → tagOf the-type k ≡ codeOf k .place
 tag-place K.Newline = refl
-tag-place K.String = refl
+tag-place (K.String c) = refl
 tag-place K.Float = refl
 tag-place K.Integer = refl
 tag-place (K.Register n) = refl

@@ -1,4 +1,5 @@
 pub mod Arms
 pub mod Raw
 pub mod Words
+pub mod Unclosed
 pub mod Places

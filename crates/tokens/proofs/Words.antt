@@ -20,7 +20,8 @@ InRange k = codeOf k .carried < cond (isKind k (K.Register 0)) 256 65536
 
 code-back : (k : TokenKind) → InRange k → kindIn (codeOf k) ≡ k
 code-back K.Newline h = refl
-code-back K.String h = refl
+code-back (K.String true) h = refl
+code-back (K.String false) h = refl
 code-back K.Float h = refl
 code-back K.Integer h = refl
 code-back (K.Register n) h = ap K.Register (omega arith)
@@ -65,16 +66,16 @@ round-trip k s h a e =
     simp (n, f, t, kind-back k h)
 
 -- a string's number is told by its place
-pub is-string : (n : ℕ) → isKind (kindOf n) K.String ≡ eqb (n / 65536) 1
+pub is-string : (n : ℕ) → isKind (kindOf n) (K.String true) ≡ eqb (n / 65536) 1
 unfolding kindOf
 is-string n = by (ltb (n / 65536) 18) refl
   where
-    by : (t : Bool) → ltb (n / 65536) 18 ≡ t → isKind (kindIn (n / 65536 carrying n % 65536)) K.String ≡ eqb (n / 65536) 1
+    by : (t : Bool) → ltb (n / 65536) 18 ≡ t → isKind (kindIn (n / 65536 carrying n % 65536)) (K.String true) ≡ eqb (n / 65536) 1
     by true e =
-        agree (λ p. isKind (kindIn (p carrying n % 65536)) K.String) (λ p. eqb p 1) 18 (n / 65536) refl (ltb-true _ _ e)
+        agree (λ p. isKind (kindIn (p carrying n % 65536)) (K.String true)) (λ p. eqb p 1) 18 (n / 65536) refl (ltb-true _ _ e)
     by false e =
         let h = ltb-false (n / 65536) 18 e in
-        ap (λ k. isKind k K.String) (List·getD-eq-default (kinds (n % 65536)) K.Unknown h) ∙ sym (ne-eqb (n / 65536) 1 (λ q. omega arith))
+        ap (λ k. isKind k (K.String true)) (List·getD-eq-default (kinds (n % 65536)) K.Unknown h) ∙ sym (ne-eqb (n / 65536) 1 (λ q. omega arith))
 
 -- the token of a word, from its kind and its raw bounds
 pub token-is : (w : ℕ) (k : TokenKind) (r : Span) → k ≡ kindOf (w / 1099511627776)

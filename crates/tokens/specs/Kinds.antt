@@ -1,5 +1,5 @@
 -- A token kind as a number, and back.
-use mathlib.Core.Bool.{Bool}
+use mathlib.Core.Bool.{Bool, false, cond, _&&_}
 use mathlib.Core.List.{List, [], _∷_}
 use Prim.Native.Nat.{ℕ, _+_, _*_, _/_, _%_}
 use lib.Dec.{eqb}
@@ -19,7 +19,7 @@ p carrying n = record { place = p; carried = n }
 
 abbrev pub codeOf : TokenKind → Code
 codeOf K.Newline = 0 carrying 0
-codeOf K.String = 1 carrying 0
+codeOf (K.String c) = 1 carrying cond c 0 1
 codeOf K.Float = 2 carrying 0
 codeOf K.Integer = 3 carrying 0
 codeOf (K.Register n) = 4 carrying n
@@ -48,11 +48,15 @@ kindNumber k = numberIn (codeOf k)
 abbrev pub isKind : TokenKind → TokenKind → Bool
 isKind k l = eqb (codeOf k .place) (codeOf l .place)
 
+-- a string that lacks its closing quote: document 02, 'Say whether a string was closed'
+abbrev pub isUnclosed : TokenKind → Bool
+isUnclosed k = isKind k (K.String false) && eqb (codeOf k .carried) 1
+
 -- the kinds by place, those that carry a number carrying n; `Unknown` is what stands past its end
 abbrev pub kinds : ℕ → List TokenKind
 kinds n =
     K.Newline
-    ∷ K.String
+    ∷ K.String (eqb n 0)
     ∷ K.Float
     ∷ K.Integer
     ∷ K.Register (n % 256)

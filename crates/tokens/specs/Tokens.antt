@@ -1,5 +1,5 @@
 -- The table word of a token, and the raw text.
-use mathlib.Core.Bool.{Bool, cond, _&&_}
+use mathlib.Core.Bool.{Bool, true, cond, _&&_}
 use mathlib.Core.List.{List}
 use Prim.Native.Nat.{ℕ, _+_, _-_, _*_, _/_, _%_}
 use lib.Dec.{leb}
@@ -15,7 +15,7 @@ span a e = record { start = a; end = e }
 
 -- a string's raw text leaves out the first and the last byte of its span; any other token's is the span
 abbrev pub rawIn : TokenKind → Span → Span
-rawIn k s = cond (isKind k K.String) (span (s .start + 1) (s .end - 1)) s
+rawIn k s = cond (isKind k (K.String true)) (span (s .start + 1) (s .end - 1)) s
 
 abbrev pub tokenIn : TokenKind → Span → Token
 tokenIn k s = record { kind = k; span = s; raw = rawIn k s }

@@ -3,14 +3,16 @@ use actions::action_at;
 use actions::action_number;
 use names::ActionName;
 ghost use mathlib.Core.Path.{_≡_};
+ghost use mathlib.Core.Bool.{cond};
 ghost use Prim.Native.Nat.{_+_, _<_, _≤_};
 ghost use lib.ListN.{length};
-ghost use Rattle.tokens.specs.Kinds.{codeOf, kindNumber, kindOf};
+ghost use Rattle.tokens.specs.Kinds.{codeOf, kindNumber, kindOf, isUnclosed};
 ghost use Rattle.tokens.specs.Tokens.{span, tokenIn, wordOf, tokenOf, within, rawBounds, rawText};
 
 pub enum TokenKind {
     Newline,
-    String,
+    // whether its closing quote was there
+    String(bool),
     Float,
     Integer,
     Register(u8),
@@ -55,13 +57,20 @@ fn wide16(x: u16) -> u64
     x as u64
 }
 
+// 1 where the closing quote is missing.
+fn missing(closed: bool) -> u64
+    ensures { λ r. ⌜ r ≡ cond closed 0 1 ⌝ }
+{
+    if closed { 0 } else { 1 }
+}
+
 // The number of a kind: its place in `TokenKind`, and below 65,536 what it carries.
 pub fn kind_number(k: TokenKind) -> u64
     ensures { λ r. ⌜ (r ≡ kindNumber k) × (r < 2097152) ⌝ }
 {
     match k {
         TokenKind::Newline => 0,
-        TokenKind::String => 65536,
+        TokenKind::String(closed) => 65536 + missing(closed),
         TokenKind::Float => 131072,
         TokenKind::Integer => 196608,
         TokenKind::Register(n) => 262144 + wide8(n),
@@ -91,7 +100,7 @@ pub fn kind_of(number: u64) -> TokenKind
     let carried = number % 65536;
     match place {
         0 => TokenKind::Newline,
-        1 => TokenKind::String,
+        1 => TokenKind::String(carried == 0),
         2 => TokenKind::Float,
         3 => TokenKind::Integer,
         4 => TokenKind::Register((carried % 256) as u8),
@@ -126,6 +135,17 @@ pub fn kind_place(word: u64) -> u64
 {
     let place = word / 72057594037927936;
     if place < 18 { place } else { 18 }
+}
+
+// Whether a token is a string without its closing quote, which its word tells without the rest of it.
+pub fn is_unclosed(word: u64) -> bool
+    ensures { λ r. ⌜ r ≡ isUnclosed (tokenOf word .kind) ⌝ }
+{
+    let number = word / 1099511627776;
+    if number <= 65536 {
+        return false;
+    }
+    number < 131072
 }
 
 // The token of a table word.

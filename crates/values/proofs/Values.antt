@@ -92,7 +92,7 @@ no-value k s raw h = by k (key-there others (tagOf the-type k) h)
   where
     by : (k : TokenKind) → T (hasKey others (tagOf the-type k)) → refused 6 0 ≡ orSix (pushValue k s raw)
     by K.Newline h = refl
-    by K.String h = absurd h
+    by (K.String c) h = absurd h
     by K.Float h = absurd h
     by K.Integer h = absurd h
     by (K.Register n) h = absurd h

@@ -53,7 +53,7 @@ integerValue s raw = integerOr (integer s) (floatValue s raw)
 
 unfoldable pub pushValue : TokenKind → List ℕ → Span → Option PushValue
 pushValue K.Newline s raw = none
-pushValue K.String s raw = some (P.String raw)
+pushValue (K.String c) s raw = some (P.String raw)
 pushValue K.Float s raw = floatValue s raw
 pushValue K.Integer s raw = integerValue s raw
 pushValue (K.Register n) s raw = some (P.Register n)

@@ -99,7 +99,7 @@ fn kind_value(kind: TokenKind, s: &[u8], raw: Span) -> TokenValue
     ensures { λ r. ⌜ answer r ≡ orSix (pushValue kind (now (s .entry)) raw) ⌝ }
 {
     match kind {
-        TokenKind::String => TokenValue::Is(PushValue::String(raw)),
+        TokenKind::String(_) => TokenValue::Is(PushValue::String(raw)),
         TokenKind::Float => float_value(s, raw),
         TokenKind::Integer => integer_value(s, raw),
         TokenKind::Register(n) => TokenValue::Is(PushValue::Register(n)),

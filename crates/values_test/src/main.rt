@@ -179,7 +179,7 @@ const ODD: [Odd; 14] = [
         end: 19,
     },
     Odd {
-        kind: TokenKind::String,
+        kind: TokenKind::String(true),
         start: 20,
         end: 20,
     },

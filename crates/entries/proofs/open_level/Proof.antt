@@ -2,9 +2,10 @@
 use borrow.Author.Needs.{needs}
 use denote.Ref.{now}
 use mathlib.Core.Path.{_≡_, ap, _∙_}
+use mathlib.Core.List.{[], _∷_}
 use Prim.Native.Nat.{ℕ, _+_, _*_}
 use native.Mathlib.Omega.{arith}
-use lib.ListN.{set}
+use lib.Seq.{sets}
 use Rattle.entries.proofs.open_level.Statement.{statement}
 use Rattle.entries.proofs.open_level.Tie as tie
 
@@ -14,8 +15,7 @@ opened n m e = omega (arith, e)
 returns : tie.Need-returns
 returns c =
     let a = c .before .before .before .before .before .before .args in
-    c .before .before .put .ensures
-    ∙ ap (set (now (a .table)) (a .at)) (opened _ _ (c .before .before .before .before .block-number .ensures .0))
+    c .before .before .put-level .ensures ∙ ap (λ (n : ℕ). sets (now (a .table)) (2 * a .at) (n ∷ 0 ∷ [])) (opened _ _ (c .before .before .before .before .block-number .ensures .0))
 
 pub open-level-spec : {M : Type 1} → statement M
 open-level-spec =
