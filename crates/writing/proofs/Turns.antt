@@ -2,7 +2,7 @@
 use mathlib.Core.Path.{_≡_, sym, ap, subst, _∙_}
 use mathlib.Core.Bool.{Bool}
 use mathlib.Core.List.{List, _∷_, map}
-use Prim.Native.Nat.{ℕ, _+_, _-_, _≤_, _<_}
+use Prim.Native.Nat.{ℕ, _+_, _-_, _*_, _≤_, _<_}
 use native.Mathlib.Numerals.{add-one}
 use native.Mathlib.Omega.{arith}
 use lib.ListN.{length, drop, getD, set, drop-of-length-le}
@@ -13,20 +13,22 @@ use Rattle.events.specs.Log.{eventOf}
 use Rattle.entries.specs.declared.Action.{Action}
 use Rattle.entries.specs.declared.Net.{Net}
 use Rattle.entries.specs.declared.Level.{Level}
-use Rattle.entries.specs.Entries.{actionWord, actionOf, levelWord, ownerOf}
-use Rattle.entries.specs.Levels.{withAction, levelAt, Small}
+use Rattle.entries.specs.Entries.{actionWord, actionOf, levelWords, levelAt, ownerOf}
+use Rattle.entries.specs.Levels.{withAction, Small}
 use Rattle.pcode.specs.Deltas.{deltaOf}
 use Rattle.nets.specs.Nets.{firstIsEmpty, movedBy}
 use Rattle.writing.specs.declared.Writer.{Writer}
-use Rattle.writing.specs.Writing.{gather, given, Written, written, movedLevel, givenIn, acted, opening, openedIn, opened, ownerIn, closing, closed, by, step, steps, Behind}
+use Rattle.writing.specs.declared.Given.{Given}
+use Rattle.writing.specs.Writing.{gather, unclosedOf, given, gave, Written, written, movedLevel, givenIn, acted, opening, openedIn, opened, ownerIn, closing, closed, by, step, steps, Behind}
 
-pub moved-is : (text s ops : List ℕ) (first end : ℕ) (n : ActionName) (a ℓ : ℕ) (ls : List ℕ) (h : Level) (empty : Bool) (net : Net) (ls′ : List ℕ)
-    → h ≡ levelAt ls ℓ → empty ≡ firstIsEmpty text s ops first end → net ≡ movedBy (deltaOf n (end - first) empty) a (h .net)
-    → ls′ ≡ set ls ℓ (levelWord (withAction net (levelAt ls ℓ)))
-    → ls′ ≡ movedLevel text s ops first end n a ℓ ls
+pub moved-is : (text s ops : List ℕ) (first : ℕ) (g : Given) (n : ActionName) (a ℓ : ℕ) (ls : List ℕ) (h : Level) (empty : Bool) (net : Net) (ls′ : List ℕ)
+    → h ≡ levelAt ls ℓ → empty ≡ firstIsEmpty text s ops first (g .end) → net ≡ movedBy (deltaOf n (g .end - first) empty) a (h .net)
+    → ls′ ≡ sets ls (2 * ℓ) (levelWords (withAction net (g .unclosed) (levelAt ls ℓ)))
+    → ls′ ≡ movedLevel text s ops first g n a ℓ ls
 unfolding movedLevel
-moved-is text s ops first end n a ℓ ls h empty net ls′ eh ee en el =
-    el ∙ ap (λ q. set ls ℓ (levelWord (withAction q (levelAt ls ℓ)))) (en ∙ (λ j. movedBy (deltaOf n (end - first) (ee j)) a (eh j .net)))
+moved-is text s ops first g n a ℓ ls h empty net ls′ eh ee en el =
+    el
+    ∙ ap (λ q. sets ls (2 * ℓ) (levelWords (withAction q (g .unclosed) (levelAt ls ℓ)))) (en ∙ (λ j. movedBy (deltaOf n (g .end - first) (ee j)) a (eh j .net)))
 
 pub closing-is : (xs ls : List ℕ) (w : Writer) (h : Level) (owner : ℕ) (x : Action) → h ≡ levelAt ls (w .level) → owner ≡ ownerOf (h .block)
     → x ≡ actionOf (getD xs owner 0)
@@ -36,19 +38,21 @@ closing-is xs ls w h owner x eh eo ex =
     let l = ap (λ (q : Action). q .level) ex ∙ ap (λ q. actionOf (getD xs q 0) .level) o in
     λ j. record { level = l j; action = o j; actions = w .actions; operands = w .operands; levels = w .levels }
 
-pub acted-is : (text s : List ℕ) (n : ActionName) (rest xs os ls xs′ os′ ls′ : List ℕ) (w : Writer) (end : ℕ)
-    → os′ ≡ sets os (w .operands) (map (given (w .actions)) (gather 0 rest))
-    → end ≡ w .operands + length (gather 0 rest)
-    → xs′ ≡ set xs (w .actions) (actionWord (record { name = n; level = w .level; first = w .operands; count = end - w .operands }))
-    → ls′ ≡ movedLevel text s os′ (w .operands) end n (w .actions) (w .level) ls
-    → written xs′ os′ ls′ (record { level = w .level; action = w .actions; actions = w .actions + 1; operands = end; levels = w .levels }) ≡ acted text s n rest (written xs os ls w)
+pub acted-is : (text s : List ℕ) (n : ActionName) (rest xs os ls xs′ os′ ls′ : List ℕ) (w : Writer) (g : Given)
+    → os′ ≡ sets os (w .operands) (map (given s (w .actions)) (gather 0 rest))
+    → g .end ≡ w .operands + length (gather 0 rest)
+    → g .unclosed ≡ unclosedOf s (gather 0 rest)
+    → xs′ ≡ set xs (w .actions) (actionWord (record { name = n; level = w .level; first = w .operands; count = g .end - w .operands }))
+    → ls′ ≡ movedLevel text s os′ (w .operands) g n (w .actions) (w .level) ls
+    → written xs′ os′ ls′ (record { level = w .level; action = w .actions; actions = w .actions + 1; operands = g .end; levels = w .levels }) ≡ acted text s n rest (written xs os ls w)
 unfolding written acted givenIn
-acted-is text s n rest xs os ls xs′ os′ ls′ w end eo ee ex el =
-    let d : end - w .operands ≡ length (gather 0 rest) = omega arith in
+acted-is text s n rest xs os ls xs′ os′ ls′ w g eo ee eu ex el =
+    let d : g .end - w .operands ≡ length (gather 0 rest) = omega arith in
+    let eg : g ≡ gave s (w .operands) (gather 0 rest) = λ j. record { end = ee j; unclosed = eu j } in
     λ j. record {
       actions = (ex ∙ ap (λ k. set xs (w .actions) (actionWord (record { name = n; level = w .level; first = w .operands; count = k }))) d) j;
       operands = eo j;
-      levels = (el ∙ (λ k. movedLevel text s (eo k) (w .operands) (ee k) n (w .actions) (w .level) ls)) j;
+      levels = (el ∙ (λ k. movedLevel text s (eo k) (w .operands) (eg k) n (w .actions) (w .level) ls)) j;
       at = record { level = w .level; action = w .actions; actions = w .actions + 1; operands = ee j; levels = w .levels };
     }
 

@@ -1,6 +1,6 @@
 -- What each event of a log writes into the lent tables. No public contract cites it.
 use mathlib.Core.Path.{_≡_}
-use mathlib.Core.Bool.{cond}
+use mathlib.Core.Bool.{Bool, cond}
 use mathlib.Core.List.{List, [], _∷_, map}
 use Prim.Native.Nat.{ℕ, zero, suc, _+_, _-_, _*_, _≤_}
 use lib.Dec.{eqb}
@@ -8,15 +8,18 @@ use lib.ListN.{length, getD, set}
 use lib.Seq.{sets}
 use Rattle.names.specs.declared.ActionName.{ActionName}
 use Rattle.actions.specs.Numbers.{actionAt}
+use Rattle.tokens.specs.Kinds.{isUnclosed}
+use Rattle.tokens.specs.Tokens.{tokenOf}
 use Rattle.events.specs.declared.Event.{Event}
 use Rattle.events.specs.declared.Event.the-variants as E
 use Rattle.events.specs.Log.{eventOf}
 use Rattle.entries.specs.declared.Block.the-variants as B
-use Rattle.entries.specs.Entries.{actionWord, actionOf, operandWord, partOf, levelWord, ownerOf}
-use Rattle.entries.specs.Levels.{fresh, withAction, levelAt, Small}
+use Rattle.entries.specs.Entries.{actionWord, actionOf, operandWord, partOf, levelWords, levelAt, ownerOf}
+use Rattle.entries.specs.Levels.{fresh, withAction, Small}
 use Rattle.pcode.specs.Deltas.{deltaOf}
 use Rattle.nets.specs.Nets.{firstIsEmpty, movedBy}
 use Rattle.writing.specs.declared.Writer.{Writer}
+use Rattle.writing.specs.declared.Given.{Given}
 
 -- ---- an action's operands
 
@@ -43,8 +46,17 @@ gather d [] = []
 gather zero (w ∷ l) = gatherBy (eventOf w) (gather zero l) (gather 1 l)
 gather (suc d) (w ∷ l) = gather (deeper (eventOf w) (suc d)) l
 
-abbrev pub given : ℕ → ℕ → ℕ
-given a t = operandWord (record { action = a; token = t })
+-- whether the token at a place is a string without its closing quote
+unfoldable pub unclosedAt : List ℕ → ℕ → Bool
+unclosedAt s t = isUnclosed (tokenOf (getD s t 0) .kind)
+
+-- how many of these tokens are
+abbrev pub unclosedOf : List ℕ → List ℕ → ℕ
+unclosedOf s [] = 0
+unclosedOf s (t ∷ ts) = cond (unclosedAt s t) 1 0 + unclosedOf s ts
+
+abbrev pub given : List ℕ → ℕ → ℕ → ℕ
+given s a t = operandWord (record { action = a; token = t; unclosed = unclosedAt s t })
 
 -- ---- the tables
 
@@ -58,22 +70,27 @@ pub record Written : Type 0 where
 unfoldable pub written : List ℕ → List ℕ → List ℕ → Writer → Written
 written xs os ls w = record { actions = xs; operands = os; levels = ls; at = w }
 
--- level ℓ with one action more, whose operands stand from `first` to `end`
-unfoldable pub movedLevel : (text s operands : List ℕ) (first end : ℕ) (n : ActionName) (a ℓ : ℕ) (levels : List ℕ) → List ℕ
-movedLevel text s operands first end n a ℓ levels =
-    set levels ℓ (levelWord (withAction (movedBy (deltaOf n (end - first) (firstIsEmpty text s operands first end)) a (levelAt levels ℓ .net)) (levelAt levels ℓ)))
+-- level ℓ with one action more, whose operands stand from `first` on
+unfoldable pub movedLevel : (text s operands : List ℕ) (first : ℕ) (g : Given) (n : ActionName) (a ℓ : ℕ) (levels : List ℕ) → List ℕ
+movedLevel text s operands first g n a ℓ levels =
+    sets levels (2 * ℓ)
+    (levelWords (withAction (movedBy (deltaOf n (g .end - first) (firstIsEmpty text s operands first (g .end))) a (levelAt levels ℓ .net)) (g .unclosed) (levelAt levels ℓ)))
 
-unfoldable pub givenIn : ℕ → List ℕ → List ℕ → ℕ → List ℕ
-givenIn a os table first = sets table first (map (given a) os)
+unfoldable pub givenIn : List ℕ → ℕ → List ℕ → List ℕ → ℕ → List ℕ
+givenIn s a os table first = sets table first (map (given s a) os)
+
+-- the operands os from `first` on
+abbrev pub gave : List ℕ → ℕ → List ℕ → Given
+gave s first os = record { end = first + length os; unclosed = unclosedOf s os }
 
 unfoldable pub acted : (text s : List ℕ) → ActionName → List ℕ → Written → Written
 acted text s n rest T =
     record {
       actions = set (T .actions) (T .at .actions) (actionWord (record { name = n; level = T .at .level; first = T .at .operands; count = length (gather 0 rest) }));
-      operands = givenIn (T .at .actions) (gather 0 rest) (T .operands) (T .at .operands);
+      operands = givenIn s (T .at .actions) (gather 0 rest) (T .operands) (T .at .operands);
       levels =
-          movedLevel text s (givenIn (T .at .actions) (gather 0 rest) (T .operands) (T .at .operands)) (T .at .operands)
-          (T .at .operands + length (gather 0 rest)) n (T .at .actions) (T .at .level) (T .levels);
+          movedLevel text s (givenIn s (T .at .actions) (gather 0 rest) (T .operands) (T .at .operands)) (T .at .operands)
+          (gave s (T .at .operands) (gather 0 rest)) n (T .at .actions) (T .at .level) (T .levels);
       at = record {
         level = T .at .level;
         action = T .at .actions;
@@ -87,7 +104,7 @@ abbrev pub opening : Writer → Writer
 opening w = record { level = w .levels; action = w .action; actions = w .actions; operands = w .operands; levels = w .levels + 1 }
 
 abbrev pub openedIn : List ℕ → Writer → ℕ → List ℕ
-openedIn levels w p = set levels (w .levels) (levelWord (fresh (partOf p (w .action))))
+openedIn levels w p = sets levels (2 * w .levels) (levelWords (fresh (partOf p (w .action))))
 
 unfoldable pub opened : ℕ → Written → Written
 opened p T = record { actions = T .actions; operands = T .operands; levels = openedIn (T .levels) (T .at) p; at = opening (T .at) }
@@ -128,7 +145,7 @@ steps text s (w ∷ l) T = steps text s l (step text s w l T)
 
 -- before the first event: the top level is open
 abbrev pub start : List ℕ → List ℕ → List ℕ → Written
-start xs os ls = written xs os (set ls 0 (levelWord (fresh B.Top))) (record { level = 0; action = 0; actions = 0; operands = 0; levels = 1 })
+start xs os ls = written xs os (sets ls 0 (levelWords (fresh B.Top))) (record { level = 0; action = 0; actions = 0; operands = 0; levels = 1 })
 
 -- what `write_tables` leaves
 pub record Writes (text s log xs os ls xs′ os′ ls′ : List ℕ) : Type 0 where

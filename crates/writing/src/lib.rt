@@ -16,13 +16,15 @@ use events::event_of;
 use names::ActionName;
 use nets::first_is_empty;
 use nets::next_net;
+use tokens::is_unclosed;
 ghost use mathlib.Core.Path.{_≡_};
+ghost use mathlib.Core.Bool.{cond};
 ghost use Prim.Native.Nat.{_+_, _≤_, _<_};
 ghost use mathlib.Core.List.{map};
-ghost use lib.ListN.{length, drop, getD};
+ghost use lib.ListN.{length, drop, getD, set};
 ghost use lib.Seq.{sets};
 ghost use Rattle.entries.specs.Levels.{Small};
-ghost use Rattle.writing.specs.Writing.{deeper, gather, given, Behind, written, movedLevel, acted, opening, openedIn, closing, step, Writes};
+ghost use Rattle.writing.specs.Writing.{deeper, gather, unclosedAt, unclosedOf, given, Behind, written, movedLevel, acted, opening, openedIn, closing, step, Writes};
 
 // The level that is open, the action that came last, and how many entries are written.
 pub struct Writer {
@@ -47,16 +49,57 @@ fn deeper(event: Event, depth: usize) -> usize
     }
 }
 
-// The operands of the action whose event stands before `from`, from place `at` on; the place behind them. A Try's target is logged
-// behind its try block, since only there it is known to be kept; so that block is passed over.
-fn give_operands(log: &[u64], from: usize, action: usize, at: usize, operands: &mut [u64]) -> usize
+// Whether the token at a place is a string without its closing quote.
+fn is_unclosed_at(s: &[u64], token: usize) -> bool
+    ensures { λ r. ⌜ r ≡ unclosedAt (now (s .entry)) token ⌝ }
+{
+    if token < s.len() {
+        return is_unclosed(s[token]);
+    }
+    false
+}
+
+// Writes an operand of an action; 1 if it is an unclosed string, else 0.
+fn give_operand(s: &[u64], token: usize, action: usize, at: usize, operands: &mut [u64]) -> usize
+    requires { ⌜ Small action × Small token ⌝ }
+    ensures { λ r. ⌜ now (operands .exit) ≡ set (now (operands .entry)) at (given (now (s .entry)) action token) ⌝ }
+    ensures { λ r. ⌜ (r ≡ cond (unclosedAt (now (s .entry)) token) 1 0) × (r ≤ 1) ⌝ }
+{
+    let unclosed = is_unclosed_at(s, token);
+    let operand = Operand {
+        action,
+        token,
+        unclosed,
+    };
+    put_operand(operands, at, operand);
+    if unclosed { 1 } else { 0 }
+}
+
+// The place behind an action's operands, and how many of them are unclosed strings.
+pub struct Given {
+    pub end: usize,
+    pub unclosed: usize,
+}
+
+// The operands of the action whose event stands before `from`, from place `at` on. A Try's target is logged behind its try block,
+// since only there it is known to be kept; so that block is passed over.
+fn give_operands(
+    s: &[u64],
+    log: &[u64],
+    from: usize,
+    action: usize,
+    at: usize,
+    operands: &mut [u64],
+) -> Given
     requires { ⌜ (length (now log) ≤ 65536) × ((from ≤ length (now log)) × (Small action × (at ≤ 4294967296))) ⌝ }
-    ensures { λ r. ⌜ now (operands .exit) ≡ sets (now (operands .entry)) at (map (given action) (gather 0 (drop from (now (log .entry))))) ⌝ }
-    ensures { λ r. ⌜ r ≡ at + length (gather 0 (drop from (now (log .entry)))) ⌝ }
-    ensures { λ r. ⌜ (at ≤ r) × (r ≤ at + length (now (log .entry))) ⌝ }
+    ensures { λ r. ⌜ now (operands .exit) ≡ sets (now (operands .entry)) at (map (given (now (s .entry)) action) (gather 0 (drop from (now (log .entry))))) ⌝ }
+    ensures { λ r. ⌜ r .end ≡ at + length (gather 0 (drop from (now (log .entry)))) ⌝ }
+    ensures { λ r. ⌜ r .unclosed ≡ unclosedOf (now (s .entry)) (gather 0 (drop from (now (log .entry)))) ⌝ }
+    ensures { λ r. ⌜ (at + r .unclosed ≤ r .end) × (r .end ≤ at + length (now (log .entry))) ⌝ }
 {
     let mut depth = 0;
     let mut end = at;
+    let mut unclosed = 0;
     let mut i = from;
     while i < log.len() {
         let event = event_of(log[i]);
@@ -67,49 +110,45 @@ fn give_operands(log: &[u64], from: usize, action: usize, at: usize, operands: &
         }
         match event {
             Event::Operand(token) => {
-                let operand = Operand {
-                    action,
-                    token: token as usize,
-                };
-                put_operand(operands, end, operand);
+                unclosed += give_operand(s, token as usize, action, end, operands);
                 end += 1;
                 continue;
             }
             Event::Opened(part) => {
                 if part != 1 {
-                    return end;
+                    return Given { end, unclosed };
                 }
                 depth = 1;
                 continue;
             }
-            Event::Action(_) => return end,
-            Event::Label(_) => return end,
-            Event::Closed => return end,
+            Event::Action(_) => return Given { end, unclosed },
+            Event::Label(_) => return Given { end, unclosed },
+            Event::Closed => return Given { end, unclosed },
         }
     }
-    end
+    Given { end, unclosed }
 }
 
-// One action more in its level, and its delta in the level's net.
+// One action more in its level, its delta in the level's net, its unclosed strings in the level's count.
 fn move_level(
     text: &[u8],
     s: &[u64],
     operands: &[u64],
     first: usize,
-    end: usize,
+    given: Given,
     name: ActionName,
     action: usize,
     level: usize,
     levels: &mut [u64],
 )
-    requires { ⌜ (action ≤ 65536) × ((first ≤ end) × (end ≤ first + 65536)) ⌝ }
-    ensures { λ _. ⌜ now (levels .exit) ≡ movedLevel (now (text .entry)) (now (s .entry)) (now (operands .entry)) first end name action level (now (levels .entry)) ⌝ }
+    requires { ⌜ (action ≤ 65536) × (Small level × ((first + given .unclosed ≤ given .end) × (given .end ≤ first + 65536))) ⌝ }
+    ensures { λ _. ⌜ now (levels .exit) ≡ movedLevel (now (text .entry)) (now (s .entry)) (now (operands .entry)) first given name action level (now (levels .entry)) ⌝ }
 {
     let held = level_at(levels, level);
     let before = held.net;
-    let empty = first_is_empty(text, s, operands, first, end);
-    let net = next_net(before, action, name, end - first, empty);
-    add_action(levels, level, net);
+    let empty = first_is_empty(text, s, operands, first, given.end);
+    let net = next_net(before, action, name, given.end - first, empty);
+    add_action(levels, level, net, given.unclosed);
 }
 
 fn act(
@@ -130,20 +169,20 @@ fn act(
     let level = w.level;
     let a = w.actions;
     let first = w.operands;
-    let end = give_operands(log, from, a, first, operands);
+    let given = give_operands(s, log, from, a, first, operands);
     let action = Action {
         name,
         level,
         first,
-        count: end - first,
+        count: given.end - first,
     };
     put_action(actions, a, action);
-    move_level(text, s, operands, first, end, name, a, level, levels);
+    move_level(text, s, operands, first, given, name, a, level, levels);
     Writer {
         level,
         action: a,
         actions: a + 1,
-        operands: end,
+        operands: given.end,
         levels: w.levels,
     }
 }
@@ -165,6 +204,7 @@ fn open(part: u64, w: Writer, levels: &mut [u64]) -> Writer
 
 // Back to the action that owns the level, and to that action's level.
 fn close(w: Writer, actions: &[u64], levels: &[u64]) -> Writer
+    requires { ⌜ Small (w .level) ⌝ }
     ensures { λ r. ⌜ r ≡ closing (now (actions .entry)) (now (levels .entry)) w ⌝ }
     ensures { λ r. ⌜ Small (r .level) × Small (r .action) ⌝ }
 {
