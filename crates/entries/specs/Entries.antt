@@ -1,6 +1,6 @@
 -- The table word of each entry, of a level two, and back. Callers see the structs alone.
 use mathlib.Core.Bool.{Bool, cond}
-use mathlib.Core.List.{List, [], _∷_}
+use mathlib.Core.List.{List, [], _∷_, _++_}
 use Prim.Native.Nat.{ℕ, zero, suc, _+_, _-_, _*_, _/_, _%_}
 use lib.Dec.{eqb, ltb}
 use lib.IntN.{pos, negsuc, subℕ}
@@ -76,6 +76,10 @@ levelWord l = blockNumber (l .block) * 1099511627776 + l .actions * 1048576 + ne
 
 abbrev pub levelWords : Level → List ℕ
 levelWords l = levelWord l ∷ l .unclosed ∷ []
+
+abbrev pub levelsWords : List Level → List ℕ
+levelsWords [] = []
+levelsWords (l ∷ ls) = levelWords l ++ levelsWords ls
 
 abbrev pub levelOf : ℕ → ℕ → Level
 levelOf w v =

@@ -1,16 +1,15 @@
 -- The lent tables once a tree's log is written: those of its reading. Assumes nothing.
 use mathlib.Core.Path.{_≡_, refl, sym, ap, _∙_}
 use mathlib.Core.List.{List, [], _∷_, map}
-use Prim.Native.Nat.{ℕ, suc, _+_, _≤_}
+use Prim.Native.Nat.{ℕ, suc, _+_, _*_, _≤_}
 use native.Mathlib.Omega.{arith}
 use lib.IntN.{pos}
-use lib.ListN.{length, set, length-append, length-map, length-set}
-use lib.Seq.{sets, set-set, getD-set-same}
+use lib.ListN.{length, length-append, length-map}
 use Rattle.entries.specs.declared.Block.the-variants as B
-use Rattle.entries.specs.Entries.{actionWord, levelWord}
+use Rattle.entries.specs.Entries.{actionWord, levelsWords}
 use Rattle.entries.specs.Levels.{fresh}
 use Rattle.grammar.specs.Grammar.{Items, done, label, action, Blocks, no-blocks, block}
-use Rattle.grammar.specs.Reading.{Acted, Opened, ownActions, allActions, actionsInside, opened, openedOf, openedIn, actedOf, actedIn, operandsFrom, readingOf}
+use Rattle.grammar.specs.Reading.{Acted, Opened, ownActions, ownUnclosed, allActions, actionsInside, opened, openedOf, openedIn, actedOf, actedIn, operandsFrom, readingOf}
 use Rattle.grammar.specs.Reading as R
 use Rattle.grammar.specs.Nets.{Net, netFrom, nets}
 use Rattle.grammar.specs.Trees.{size, sizes}
@@ -21,6 +20,7 @@ use Rattle.reading.specs.Told.{Known, Filled}
 use Rattle.reading.proofs.Trees.{acted-count, lastOf}
 use Rattle.reading.proofs.Entries.{given, under-given}
 use Rattle.reading.proofs.Sets.{at-front}
+use Rattle.reading.proofs.LevelSets.{put, puts, put-length, put-puts, put-put, here-put, levels-front}
 use Rattle.reading.proofs.Words.{ops, actWord, actWords, opWords, op-length, act-length, ops-append, levelFinal}
 use Rattle.reading.proofs.Writes.{Point, at, levelAfter, behind, of-items}
 
@@ -81,19 +81,16 @@ pub operands-are : (x : Items) → operandWords (readingOf x) ≡ opWords 0 (act
 unfolding readingOf
 operands-are x = refl
 
-abbrev counted : Opened → R.Level
-counted l = record { owner = l .owner; actions = ownActions (l .items) }
-
 abbrev netted : Opened → Net
 netted l = netFrom (l .first) (pos 0) (l .items)
 
-levels-list : (ls : List Opened) → map levelWord (levelEntries (map counted ls) (map netted ls)) ≡ map levelFinal ls
+levels-list : (ls : List Opened) → levelEntries (map R.levelOf ls) (map netted ls) ≡ map levelFinal ls
 levels-list [] = refl
 levels-list (l ∷ ls) = ap (λ k. levelFinal l ∷ k) (levels-list ls)
 
-pub levels-are : (x : Items) → levelWords (readingOf x) (nets x) ≡ map levelFinal (opened x)
+pub levels-are : (x : Items) → levelWords (readingOf x) (nets x) ≡ levelsWords (map levelFinal (opened x))
 unfolding readingOf nets
-levels-are x = levels-list (opened x)
+levels-are x = ap levelsWords (levels-list (opened x))
 
 -- ---- how many they are
 
@@ -107,19 +104,19 @@ operands-many x = sym (length-map (operandsFrom 0 (actedOf 0 1 x)) operandEntryW
 
 pub levels-many : (x : Items) → length (readingOf x .levels) ≡ suc (length (openedOf 0 x))
 unfolding readingOf
-levels-many x = length-map (opened x) counted
+levels-many x = length-map (opened x) R.levelOf
 
 -- ---- the tables
 
 pub filled : (text s log xs os ls xs′ os′ ls′ : List ℕ) (x : Items) → Known text s x → log ≡ logOf x → Writes text s log xs os ls xs′ os′ ls′
-    → length (readingOf x .actions) ≤ length xs → length (readingOf x .operands) ≤ length os → length (readingOf x .levels) ≤ length ls
+    → length (readingOf x .actions) ≤ length xs → length (readingOf x .operands) ≤ length os → 2 * length (readingOf x .levels) ≤ length ls
     → Filled x xs os ls xs′ os′ ls′
 unfolding written
 filled text s log xs os ls xs′ os′ ls′ x known e w ra ro rl =
     let acts = actedOf 0 1 x in
     let v₀ = fresh B.Top in
     let v₁ = levelAfter v₀ 0 x in
-    let P : Point = record { actions = xs; operands = os; levels = set ls 0 (levelWord v₀); a = 0; q = 0; m = 1 } in
+    let P : Point = record { actions = xs; operands = os; levels = put ls 0 v₀; a = 0; q = 0; m = 1 } in
     let fs = few-of x 0 1 0 in
     let am = actions-many x in
     let om = operands-many x in
@@ -129,21 +126,23 @@ filled text s log xs os ls xs′ os′ ls′ x known e w ra ro rl =
     ∙ of-items text s (known .few) x [] P 0 0 v₀
     (record {
       inside = omega arith;
-      here = getD-set-same ls 0 (levelWord v₀) 0 (omega (arith, lm));
+      here = here-put ls 0 v₀ (omega (arith, lm));
       block = omega arith;
       count = omega arith;
       near = omega arith;
+      unclosed = omega arith;
     })
     (record {
       actions = omega (arith, am);
       operands = omega (arith, om);
-      levels = omega (arith, lm, length-set ls 0 (levelWord v₀));
+      levels = omega (arith, lm, put-length ls 0 v₀);
       few-actions = omega (arith, fs, known .small, known .few);
       few-operands = omega (arith, fs, known .small, known .few);
       few-levels = omega (arith, fs, known .small, known .few);
     }) (known .known) refl
     in
     let z : 0 + ownActions x ≡ ownActions x = omega arith in
+    let zu : 0 + ownUnclosed x ≡ ownUnclosed x = omega arith in
     record {
       actions =
           ap (λ (T : Written). T .actions) all ∙ at-front (actWords 0 acts) xs (omega (arith, act-length acts 0, acted-count x 0 1, am))
@@ -153,8 +152,9 @@ filled text s log xs os ls xs′ os′ ls′ x known e w ra ro rl =
           ∙ ap (λ l. front l os) (sym (operands-are x));
       levels =
           ap (λ (T : Written). T .levels) all
-          ∙ ap (λ l. sets l 1 (map levelFinal (openedOf 0 x))) (set-set ls 0 (levelWord v₀) (levelWord v₁))
-          ∙ (λ j. sets ls 0 (levelWord (record { block = B.Top; actions = z j; net = v₁ .net }) ∷ map levelFinal (openedOf 0 x)))
-          ∙ at-front (map levelFinal (opened x)) ls (omega (arith, length-map (openedOf 0 x) levelFinal, lm))
+          ∙ ap (λ l. puts l 1 (map levelFinal (openedOf 0 x))) (put-put ls 0 v₀ v₁)
+          ∙ put-puts ls 0 v₁ (map levelFinal (openedOf 0 x))
+          ∙ (λ j. puts ls 0 (record { block = B.Top; actions = z j; net = v₁ .net; unclosed = zu j } ∷ map levelFinal (openedOf 0 x)))
+          ∙ levels-front (map levelFinal (opened x)) ls (omega (arith, length-map (openedOf 0 x) levelFinal, lm))
           ∙ ap (λ l. front l ls) (sym (levels-are x));
     }

@@ -1,4 +1,5 @@
 pub mod Sets
+pub mod LevelSets
 pub mod Trees
 pub mod Places
 pub mod Runs

@@ -1,20 +1,22 @@
 -- The words of a tree's actions, operands and levels, and how far its nets go. Assumes nothing.
 use mathlib.Core.Path.{_≡_, refl, sym, ap, subst, _∙_}
+use mathlib.Core.Bool.{Bool, true, false, cond}
 use mathlib.Core.List.{List, [], _∷_, _++_, map, map-append, append-assoc}
 use Prim.Native.Nat.{ℕ, suc, _+_, _-_, _≤_}
 use native.Mathlib.Omega.{arith}
 use lib.IntN.{pos, negsuc}
 use lib.ListN.{length, length-append, length-map}
 use Rattle.names.specs.declared.ActionName.{ActionName}
+use Rattle.entries.specs.declared.Level.{Level}
 use Rattle.entries.specs.declared.Net.{Net}
 use Rattle.entries.specs.declared.Net.the-variants as N
-use Rattle.entries.specs.Entries.{actionWord, levelWord}
+use Rattle.entries.specs.Entries.{actionWord}
 use Rattle.pcode.specs.Deltas.{deltaOf}
 use Rattle.nets.specs.Nets.{movedBy}
 use Rattle.nets.proofs.Bounds.{Bounded, NearIf, delta-near, moved-bounded}
-use Rattle.lexemes.specs.Lexemes.{Lexeme}
+use Rattle.lexemes.specs.Lexemes.{Lexeme, unclosed}
 use Rattle.grammar.specs.Grammar.{Items, done, label, action}
-use Rattle.grammar.specs.Reading.{Acted, Opened, ownActions, allActions, actionsInside, openedIn, actedOf, actedIn, operandsFrom}
+use Rattle.grammar.specs.Reading.{Acted, Opened, ownActions, unclosedIn, ownUnclosed, allActions, actionsInside, openedIn, actedOf, actedIn, operandsFrom}
 use Rattle.grammar.specs.Reading as R
 use Rattle.grammar.specs.Nets.{nameIsEmpty, netFrom}
 use Rattle.reading.specs.Tables.{blockOf, netEntry, operandEntryWord}
@@ -39,8 +41,14 @@ actWords q (l ∷ ls) = actWord q l ∷ actWords (q + length (l .operands)) ls
 abbrev pub opWords : ℕ → List Acted → List ℕ
 opWords a ls = map operandEntryWord (operandsFrom a ls)
 
-abbrev pub levelFinal : Opened → ℕ
-levelFinal l = levelWord (record { block = blockOf (l .owner); actions = ownActions (l .items); net = netEntry (netFrom (l .first) (pos 0) (l .items)) })
+abbrev pub levelFinal : Opened → Level
+levelFinal l =
+    record {
+      block = blockOf (l .owner);
+      actions = ownActions (l .items);
+      net = netEntry (netFrom (l .first) (pos 0) (l .items));
+      unclosed = ownUnclosed (l .items);
+    }
 
 pub ops-append : (l r : List Acted) → ops (l ++ r) ≡ ops l + ops r
 ops-append [] r = omega arith
@@ -74,6 +82,23 @@ op-length (y ∷ l) a =
     ap length (map-append operandEntryWord m (operandsFrom (suc a) l))
     ∙ length-append (map operandEntryWord m) (opWords (suc a) l)
     ∙ omega (arith, length-map m operandEntryWord, length-map (y .operands) (of a), op-length l (suc a))
+
+-- ---- how many unclosed strings there are
+
+either : (b : Bool) → cond b 1 0 ≤ 1
+either true = omega arith
+either false = omega arith
+
+pub unclosed-few : (os : List Lexeme) → unclosedIn os ≤ length os
+unclosed-few [] = omega arith
+unclosed-few (t ∷ os) = omega (arith, either (unclosed t), unclosed-few os)
+
+pub own-unclosed-few : (x : Items) (ℓ m : ℕ) → ownUnclosed x ≤ ops (actedOf ℓ m x)
+own-unclosed-few done ℓ m = omega arith
+own-unclosed-few (label t x) ℓ m = own-unclosed-few x ℓ m
+own-unclosed-few (action n os bs x) ℓ m =
+    let m′ = m + length (openedIn 0 0 bs) in
+    omega (arith, unclosed-few os, own-unclosed-few x ℓ m′, ops-append (actedIn m bs) (actedOf ℓ m′ x))
 
 -- ---- how far a net goes
 

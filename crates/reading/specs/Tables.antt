@@ -5,7 +5,7 @@ use mathlib.Core.Option.{Option, none, some}
 use Prim.Native.Nat.{ℕ, suc, _+_}
 use lib.Dec.{eqb}
 use lib.ListN.{length, drop}
-use Rattle.entries.specs.Entries.{actionWord, operandWord, levelWord, labelWord}
+use Rattle.entries.specs.Entries.{actionWord, operandWord, levelsWords, labelWord}
 use Rattle.entries.specs.declared.Action.{Action}
 use Rattle.entries.specs.declared.Operand.{Operand}
 use Rattle.entries.specs.declared.Block.{Block}
@@ -14,7 +14,7 @@ use Rattle.entries.specs.declared.Net.{Net}
 use Rattle.entries.specs.declared.Net.the-variants as N
 use Rattle.entries.specs.declared.Level.{Level}
 use Rattle.entries.specs.declared.Label.{Label}
-use Rattle.lexemes.specs.Lexemes.{placeOf}
+use Rattle.lexemes.specs.Lexemes.{placeOf, unclosed}
 use Rattle.lexemes.specs.Events.{Part, body, try, catch, finally}
 use Rattle.grammar.specs.Reading as R
 use Rattle.grammar.specs.Nets as Nets
@@ -31,7 +31,7 @@ actionEntries a first (x ∷ xs) os =
     record { name = x .name; level = x .level; first = first; count = under a os } ∷ actionEntries (suc a) (first + under a os) xs os
 
 abbrev pub operandEntry : R.Operand → Operand
-operandEntry o = record { action = o .action; token = placeOf (o .token) }
+operandEntry o = record { action = o .action; token = placeOf (o .token); unclosed = unclosed (o .token) }
 
 abbrev pub partOf : Part → ℕ → Block
 partOf body a = B.Body a
@@ -51,7 +51,8 @@ netEntry (Nets.undetermined a) = N.Undetermined a
 abbrev pub levelEntries : List R.Level → List Nets.Net → List Level
 levelEntries [] ns = []
 levelEntries (l ∷ ls) [] = []
-levelEntries (l ∷ ls) (n ∷ ns) = record { block = blockOf (l .owner); actions = l .actions; net = netEntry n } ∷ levelEntries ls ns
+levelEntries (l ∷ ls) (n ∷ ns) =
+    record { block = blockOf (l .owner); actions = l .actions; net = netEntry n; unclosed = l .unclosed } ∷ levelEntries ls ns
 
 abbrev pub labelEntry : R.Label → Label
 labelEntry l = record { level = l .level; token = placeOf (l .name); position = l .position }
@@ -68,7 +69,7 @@ abbrev pub operandWords : R.Reading → List ℕ
 operandWords r = map operandEntryWord (r .operands)
 
 abbrev pub levelWords : R.Reading → List Nets.Net → List ℕ
-levelWords r ns = map levelWord (levelEntries (r .levels) ns)
+levelWords r ns = levelsWords (levelEntries (r .levels) ns)
 
 abbrev pub labelEntryWord : R.Label → ℕ
 labelEntryWord l = labelWord (labelEntry l)
