@@ -7,6 +7,7 @@ use lib.ListN.{length, take, drop, getD, length-map}
 use lib.Seq.{take-length}
 use Rattle.answers.specs.declared.Refusal.the-variants as F
 use Rattle.tokens.specs.Tokens.{wordOf}
+use Rattle.entries.specs.Entries.{levelPlaces}
 use Rattle.counting.specs.declared.Count.{Count}
 use Rattle.counting.specs.Counting.{Counted}
 use Rattle.grammar.specs.Grammar.{Items}
@@ -73,19 +74,19 @@ module _ (text s log tokens actions operands levels labels : List ℕ) (r : Logg
       )
 
   abbrev lowest : ℕ
-  lowest = lowestShort (length actions ∷ length operands ∷ length levels ∷ []) (c .actions ∷ c .operands ∷ c .levels ∷ [])
+  lowest = lowestShort (length actions ∷ length operands ∷ levelPlaces levels ∷ []) (c .actions ∷ c .operands ∷ c .levels ∷ [])
 
   pub row8 : (k : ℕ) → k ≡ lowest → k < 3 → ReadsWords text had had (R.Refused (F.TableShort k))
   row8 k e h =
-      let ps = length actions ∷ length operands ∷ length levels ∷ [] in
+      let ps = length actions ∷ length operands ∷ levelPlaces levels ∷ [] in
       let es = c .actions ∷ c .operands ∷ c .levels ∷ [] in
       refused-at k (length (readingOf tree .labels)) refl
-      (wider (length actions) (length operands) (length levels) (length labels) (c .actions) (c .operands) (c .levels) (length (readingOf tree .labels)) k h
+      (wider (length actions) (length operands) (levelPlaces levels) (length labels) (c .actions) (c .operands) (c .levels) (length (readingOf tree .labels)) k h
       (subst (Lowest ps es) (sym e) (found ps es refl (omega (arith, e, h)))))
 
   module _ (k : ℕ) (e : k ≡ lowest) (h : 3 ≤ k) where
-    roomy : (j : ℕ) → ¬ (getD (length actions ∷ length operands ∷ length levels ∷ []) j 0 < getD (c .actions ∷ c .operands ∷ c .levels ∷ []) j 0)
-    roomy = none (length actions ∷ length operands ∷ length levels ∷ []) (c .actions ∷ c .operands ∷ c .levels ∷ []) refl (omega (arith, e, h))
+    roomy : (j : ℕ) → ¬ (getD (length actions ∷ length operands ∷ levelPlaces levels ∷ []) j 0 < getD (c .actions ∷ c .operands ∷ c .levels ∷ []) j 0)
+    roomy = none (length actions ∷ length operands ∷ levelPlaces levels ∷ []) (c .actions ∷ c .operands ∷ c .levels ∷ []) refl (omega (arith, e, h))
 
     actions-room : c .actions ≤ length actions
     actions-room = let n = roomy 0 in omega (arith, n)
@@ -93,7 +94,7 @@ module _ (text s log tokens actions operands levels labels : List ℕ) (r : Logg
     operands-room : c .operands ≤ length operands
     operands-room = let n = roomy 1 in omega (arith, n)
 
-    levels-room : c .levels ≤ length levels
+    levels-room : c .levels ≤ levelPlaces levels
     levels-room = let n = roomy 2 in omega (arith, n)
 
     pub row8-labels : (labels′ : List ℕ) → PutOf tree labels labels′ P.Short → ReadsWords text had (lent tokens actions operands levels labels′) (R.Refused (F.TableShort 3))

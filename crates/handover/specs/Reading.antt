@@ -10,6 +10,7 @@ use Rattle.lexer.specs.Lexing.{lexText}
 use Rattle.tokens.specs.declared.Token.{Token}
 use Rattle.tokens.specs.Tokens.{wordOf}
 use Rattle.lexemes.specs.Lexemes.{numbered}
+use Rattle.entries.specs.Entries.{levelPlaces}
 use Rattle.grammar.specs.Reading as G
 use Rattle.grammar.specs.Nets.{Net, Nets}
 use Rattle.grammar.specs.Refusals.{Answers}
@@ -29,9 +30,9 @@ pub record Tables (L : Type 0) : Type 0 where
 abbrev pub lent : {L : Type 0} → List ℕ → List ℕ → List ℕ → List ℕ → List L → Tables L
 lent tokens actions operands levels labels = record { tokens = tokens; actions = actions; operands = operands; levels = levels; labels = labels }
 
--- the places of tables 0 to 3, row 8's numbers
+-- the places of tables 0 to 3, row 8's numbers; a level takes two words
 abbrev pub places : {L : Type 0} → Tables L → List ℕ
-places x = length (x .actions) ∷ length (x .operands) ∷ length (x .levels) ∷ length (x .labels) ∷ []
+places x = length (x .actions) ∷ length (x .operands) ∷ levelPlaces (x .levels) ∷ length (x .labels) ∷ []
 
 abbrev pub counted : List Token → G.Reading → Counts
 counted ts R =

@@ -24,7 +24,7 @@ pub enum Reading {
     Refused(Refusal),
 }
 
-// The lowest of tables 0 to 2 with fewer places than entries; 3 if there is none.
+// The lowest of tables 0 to 2 with fewer places than entries; 3 if there is none. A level takes two words.
 fn short_table(c: Count, actions: usize, operands: usize, levels: usize) -> usize
     ensures { λ r. ⌜ r ≡ lowestShort (actions ∷ operands ∷ levels ∷ []) (c .actions ∷ c .operands ∷ c .levels ∷ []) ⌝ }
 {
@@ -55,7 +55,7 @@ pub fn read_log(
     ensures { λ r. ⌜ ReadsWords (now (text .entry)) (lent (now (tokens .entry)) (now (actions .entry)) (now (operands .entry)) (now (levels .entry)) (now (labels .entry))) (lent (now (tokens .exit)) (now (actions .exit)) (now (operands .exit)) (now (levels .exit)) (now (labels .exit))) r ⌝ }
 {
     let c = counting::count_log(log);
-    let short = short_table(c, actions.len(), operands.len(), levels.len());
+    let short = short_table(c, actions.len(), operands.len(), levels.len() / 2);
     if short < 3 {
         return Reading::Refused(Refusal::TableShort(short));
     }
