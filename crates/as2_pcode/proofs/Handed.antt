@@ -19,7 +19,7 @@ use Rattle.lexer.proofs.Theorems.{few}
 use Rattle.lexemes.specs.Lexemes.{Lexeme, numbered}
 use Rattle.grammar.specs.Grammar.{Items}
 use Rattle.grammar.specs.Reading as G
-use Rattle.grammar.specs.Reading.{Opened, Acted, ownActions, allActions, opened, actedOf, readingOf}
+use Rattle.grammar.specs.Reading.{Opened, Acted, allActions, opened, actedOf, readingOf}
 use Rattle.grammar.specs.Nets.{Net, nets, netFrom}
 use Rattle.grammar.specs.Refusals.{Outcome, reads, Answers, fits}
 use Rattle.grammar.specs.Trees.{size}
@@ -27,12 +27,12 @@ use Rattle.grammar.proofs.Unique.{one-tree}
 use Rattle.grammar.proofs.Sizes.{fits-size}
 use Rattle.grammar.proofs.Texts.{unlike, same-accepted}
 use Rattle.grammar.proofs.Theorems.{counts, nets-bounded}
-use Rattle.entries.specs.Entries.{actionWord, actionOf, operandOf, levelWord, levelOf, labelOf}
+use Rattle.entries.specs.Entries.{actionWord, actionOf, operandOf, levelWord, levelOf, levelIn, labelOf}
 use Rattle.entries.specs.declared.Action as EA
 use Rattle.entries.specs.declared.Operand as EO
 use Rattle.entries.specs.declared.Level as EL
 use Rattle.entries.specs.declared.Label as EB
-use Rattle.entries.specs.Levels.{Small, Small17}
+use Rattle.entries.specs.Levels.{Small17}
 use Rattle.entries.proofs.Words.{action-back, operand-back, in-range, level-back, label-back}
 use Rattle.reading.specs.Trees.{AllOf, IsLow}
 use Rattle.reading.specs.Tables.{actionEntries, operandEntry, operandEntryWord, levelEntries, labelEntry, labelEntryWord}
@@ -40,12 +40,14 @@ use Rattle.reading.proofs.Runs.{Every}
 use Rattle.reading.proofs.Groups.{NamedLow, own-few, acted-all, opened-low}
 use Rattle.reading.proofs.Ranges.{LevelBelow, levels-below}
 use Rattle.reading.proofs.Front.{few-of}
+use Rattle.reading.proofs.Trees.{acted-count}
+use Rattle.reading.proofs.Words.{own-unclosed-few}
 use Rattle.reading.proofs.Places.{text-all}
 use Rattle.reading.proofs.Tokens.{tokens-back}
 use Rattle.handover.specs.declared.Counts.{Counts}
 use Rattle.handover.specs.Reading.{Tables, Accepts}
 use Rattle.reading.proofs.Entries.{entry-count, level-count}
-use Rattle.as2_pcode.proofs.Kept.{mapped-handed, handed, every-map, every-weaker, numbered-length, numbered-low, LowOperand, operands-low, LowLabel, labels-low, LowAction, LevelLow, actions-low, Under, net-under, Numbered, opened-under, NetLow, nets-low, LowLevel, CountLow, levels-low}
+use Rattle.as2_pcode.proofs.Kept.{mapped-handed, handed, levels-in, every-map, every-weaker, numbered-length, numbered-low, LowOperand, operands-low, LowLabel, labels-low, LowAction, LevelLow, actions-low, Under, net-under, Numbered, opened-under, NetLow, nets-low, LowLevel, CountLow, levels-low}
 
 -- ---- the tokens of a text that is lexed
 
@@ -145,14 +147,14 @@ module _ {L : Type 0} {entry : G.Label → L} {room : ℕ} {places text : List �
 
   operands-kept : Every LowOperand (R .operands)
   unfolding readingOf
-  operands-kept = subst (λ (r : G.Reading). Every LowOperand (r .operands)) (read .told) (operands-low (actedOf 0 1 tree) 0 (acted-all IsLow tree 0 1 low))
+  operands-kept = subst (λ (r : G.Reading). Every LowOperand (r .operands)) (read .told) (operands-low (actedOf 0 1 tree) 0 (omega (arith, few-actions, acted-count tree 0 1)) (acted-all IsLow tree 0 1 low))
 
   pub operands-handed : (i : ℕ) → i < c .operands → (d : EO.Operand) → operandOf (getD (y .operands) i 0) ≡ getD (map operandEntry (a .reading .operands)) i d
   operands-handed i h d =
       ap (λ (t : Tables L). operandOf (getD (t .operands) i 0)) (a .tables)
       ∙ mapped-handed operandOf operandEntryWord operandEntry (R .operands) _ i d
       (every-weaker LowOperand (λ (o : G.Operand). operandOf (operandEntryWord o) ≡ operandEntry o)
-      (λ o k. operand-back (operandEntry o) (omega (arith, k))) (R .operands) operands-kept)
+      (λ o k. operand-back (operandEntry o) (k .0) (omega (arith, k .1))) (R .operands) operands-kept)
       (omega (arith, h, ap (λ (k : Counts). k .operands) (a .counts)))
 
   -- ---- actions
@@ -180,39 +182,50 @@ module _ {L : Type 0} {entry : G.Label → L} {room : ℕ} {places text : List �
 
   -- ---- levels
 
+  numbered-all : Every (Numbered 65536 65536) (opened tree)
+  numbered-all =
+      let f = few-of tree 0 1 0 in (
+        record {
+          actions = omega (arith, few-actions);
+          block = omega arith;
+          unclosed = omega (arith, f, small, own-unclosed-few tree 0 1);
+        },
+        opened-under 65536 65536 tree 0 0 1 (omega (arith, few-actions)) (omega (arith, f, small)),
+      )
+
   nets-kept : Every NetLow (a .nets)
   unfolding nets
   nets-kept =
       let f : Opened → Net = λ l. netFrom (l .first) (pos 0) (l .items) in
-      let o : Every (Numbered 65536) (opened tree) = (omega (arith, few-actions), opened-under 65536 tree 0 (omega (arith, few-actions))) in
       nets-low (a .nets) (nets-bounded (a .net) few-lexemes)
       (subst (Every (Under 65536)) net-told
       (every-map (Under 65536) f (opened tree)
-      (every-weaker (Numbered 65536) (λ (l : Opened). Under 65536 (f l)) (λ l k. net-under 65536 (l .items) (l .first) (pos 0) k) (opened tree) o)))
+      (every-weaker (Numbered 65536 65536) (λ (l : Opened). Under 65536 (f l)) (λ l k. net-under 65536 (l .items) (l .first) (pos 0) (k .actions)) (opened tree) numbered-all)))
 
   counts-kept : Every CountLow (R .levels)
   unfolding readingOf
   counts-kept =
       subst (λ (r : G.Reading). Every CountLow (r .levels)) (read .told)
-      (every-map CountLow (λ (l : Opened). record { owner = l .owner; actions = ownActions (l .items) }) (opened tree)
-      (every-weaker NamedLow (λ (l : Opened). Small (ownActions (l .items))) (λ l k. k .1) (opened tree) levels-named))
+      (every-map CountLow G.levelOf (opened tree)
+      (every-weaker (Numbered 65536 65536) (λ (l : Opened). CountLow (G.levelOf l))
+      (λ l k. (omega (arith, k .block, k .actions), (omega (arith, k .actions, own-few (l .items)), omega (arith, k .unclosed)))) (opened tree) numbered-all))
 
   pub nets-long : length (a .nets) ≡ length (R .levels)
   unfolding nets readingOf
   nets-long =
       sym (ap length net-told)
       ∙ length-map (opened tree) _
-      ∙ sym (length-map (opened tree) (λ (l : Opened). record { owner = l .owner; actions = ownActions (l .items) }))
+      ∙ sym (length-map (opened tree) G.levelOf)
       ∙ ap (λ (r : G.Reading). length (r .levels)) (read .told)
 
   pub levels-handed : (i : ℕ) → i < c .levels → (d : EL.Level)
-      → levelOf (getD (y .levels) i 0) ≡ getD (levelEntries (a .reading .levels) (a .nets)) i d
+      → levelIn (y .levels) i ≡ getD (levelEntries (a .reading .levels) (a .nets)) i d
   levels-handed i h d =
       let es = levelEntries (R .levels) (a .nets) in
-      ap (λ (t : Tables L). levelOf (getD (t .levels) i 0)) (a .tables)
-      ∙ handed levelOf levelWord es _ i d
-      (every-weaker LowLevel (λ (e : EL.Level). levelOf (levelWord e) ≡ e)
-      (λ e k. level-back e (k .0) (in-range (e .net) (k .1))) es (levels-low (R .levels) (a .nets) counts-kept nets-kept))
+      ap (λ (t : Tables L). levelIn (t .levels) i) (a .tables)
+      ∙ levels-in es _ i d
+      (every-weaker LowLevel (λ (e : EL.Level). levelOf (levelWord e) (e .unclosed) ≡ e)
+      (λ e k. level-back e (k .0) (k .1 .0) (in-range (e .net) (k .1 .1 .1)) (k .1 .1 .0)) es (levels-low (R .levels) (a .nets) counts-kept nets-kept))
       (omega (arith, h, ap (λ (k : Counts). k .levels) (a .counts), level-count (R .levels) (a .nets) nets-long))
 
 -- ---- labels whose entries are words

@@ -1,33 +1,37 @@
 -- Every entry of a tree's tables is within its word, and so comes back from it. Assumes nothing.
-use mathlib.Core.Path.{_≡_, refl, ap}
+use mathlib.Core.Path.{_≡_, refl, ap, _∙_}
 use mathlib.Core.Bool.{Bool, true, false, cond}
 use mathlib.Core.List.{List, [], _∷_, _++_, map, List·Memᴰ, List·Memᴰ·head, List·Memᴰ·tail}
 use mathlib.Core.Option.{Option, none, some}
-use Prim.Native.Nat.{ℕ, zero, suc, _+_, _≤_, _<_}
+use Prim.Native.Nat.{ℕ, zero, suc, _+_, _*_, _/_, _≤_, _<_}
 use native.Mathlib.Nat.{not-suc-le-zero, le-of-suc-le-suc}
 use native.Mathlib.Omega.{arith}
 use lib.Dec.{eqb, leb, leb→le}
 use lib.IntN.{ℤ, pos, negsuc, negℤ, _+ℤ_}
-use lib.ListN.{length, getD}
+use lib.ListN.{length, getD, length-append}
 use lib.Signed.{_≤ℤ_}
-use borrow.Author.Tests.{leb-true, leb-false, eqb-true, eqb-false}
+use borrow.Author.Tests.{leb-true, leb-false, eqb-true, eqb-false, lt-ltb}
 use Rattle.tokens.specs.declared.Token.{Token}
 use Rattle.lexemes.specs.Lexemes.{Lexeme, raw, numbered, sameName}
+use Rattle.lexemes.specs.Events.{Part, body, try, catch, finally}
 use Rattle.lexemes.proofs.Tests.{either}
 use Rattle.grammar.specs.Grammar.{Items, done, label, action, Blocks, no-blocks, block}
 use Rattle.grammar.specs.Reading as R
-use Rattle.grammar.specs.Reading.{Opened, Acted, ownActions, allActions, actionsInside, openedOf, openedIn, operandsFrom, place, ownLabels, labelsFrom}
+use Rattle.grammar.specs.Reading.{Opened, Acted, ownActions, ownUnclosed, allActions, actionsInside, openedOf, openedIn, actedOf, actedIn, operandsFrom, place, ownLabels, labelsFrom}
 use Rattle.grammar.specs.Nets.{Net, height, undetermined, moved, netFrom, nameIsEmpty}
 use Rattle.pcode.specs.Deltas.{deltaOf}
 use Rattle.entries.specs.declared.Action as E
 use Rattle.entries.specs.declared.Level as L
 use Rattle.entries.specs.declared.Net.the-variants as N
+use Rattle.entries.specs.Entries.{blockNumber, levelWord, levelsWords, levelOf, levelAt, levelIn}
 use Rattle.entries.specs.Levels.{Small, Small17}
 use Rattle.entries.proofs.Words.{InRange}
 use Rattle.reading.specs.Trees.{All, AllOf, IsLow}
-use Rattle.reading.specs.Tables.{under, actionEntries, netEntry, levelEntries}
+use Rattle.reading.specs.Tables.{under, actionEntries, partOf, blockOf, netEntry, levelEntries}
 use Rattle.reading.proofs.Runs.{Every, every-append}
 use Rattle.reading.proofs.Groups.{GivenAll, NamedLow}
+use Rattle.reading.proofs.Words.{ops, ops-append, own-unclosed-few}
+use Rattle.reading.proofs.LevelSets.{words-length}
 
 -- ---- what comes back from each word of a list comes back from the front of a table
 
@@ -44,6 +48,29 @@ module _ {Y : Type 0} (back : ℕ → Y) (word : Y → ℕ) where
   handed [] r i d h g = absurd (not-suc-le-zero g)
   handed (v ∷ l) r zero d h g = h .0
   handed (v ∷ l) r (suc i) d h g = handed l r i d (h .1) (le-of-suc-le-suc g)
+
+-- of levels, which take two words
+at-next : (w u : ℕ) (t : List ℕ) (i : ℕ) → levelAt (w ∷ u ∷ t) (suc i) ≡ levelAt t i
+unfolding levelAt
+at-next w u t i =
+    let a : 2 * suc i ≡ suc (suc (2 * i)) = omega arith in
+    let b : 2 * suc i + 1 ≡ suc (suc (2 * i + 1)) = omega arith in
+    λ j. levelOf (getD (w ∷ u ∷ t) (a j) 0) (getD (w ∷ u ∷ t) (b j) 0)
+
+levels-at : (l : List L.Level) (r : List ℕ) (i : ℕ) (d : L.Level) → Every (λ (v : L.Level). levelOf (levelWord v) (v .unclosed) ≡ v) l → i < length l
+    → levelAt (levelsWords l ++ r) i ≡ getD l i d
+unfolding levelAt
+levels-at [] r i d h g = absurd (not-suc-le-zero g)
+levels-at (v ∷ l) r zero d h g = h .0
+levels-at (v ∷ l) r (suc i) d h g = at-next (levelWord v) (v .unclosed) (levelsWords l ++ r) i ∙ levels-at l r i d (h .1) (le-of-suc-le-suc g)
+
+pub levels-in : (l : List L.Level) (r : List ℕ) (i : ℕ) (d : L.Level) → Every (λ (v : L.Level). levelOf (levelWord v) (v .unclosed) ≡ v) l → i < length l
+    → levelIn (levelsWords l ++ r) i ≡ getD l i d
+unfolding levelIn
+levels-in l r i d h g =
+    let t = levelsWords l ++ r in
+    ap (λ (b : Bool). cond b (levelAt t i) (levelOf 0 0)) (lt-ltb i (length t / 2) (omega (arith, g, words-length l, length-append (levelsWords l) r)))
+    ∙ levels-at l r i d h g
 
 module _ {X Y : Type 0} (P : Y → Type 0) (f : X → Y) where
   pub every-map : (l : List X) → Every (λ (v : X). P (f v)) l → Every P (map f l)
@@ -68,17 +95,17 @@ numbered-low text (t ∷ ts) i h = (omega (arith, h), numbered-low text ts (suc 
 -- ---- operands
 
 abbrev pub LowOperand : R.Operand → Type 0
-LowOperand o = IsLow (o .token)
+LowOperand o = Small (o .action) × IsLow (o .token)
 
-given-low : (a : ℕ) (os : List Lexeme) → All IsLow os → Every LowOperand (map (λ (t : Lexeme). record { action = a; token = t }) os)
-given-low a [] h = tt
-given-low a (t ∷ os) h = (h .0, given-low a os (h .1))
+given-low : (a : ℕ) (os : List Lexeme) → Small a → All IsLow os → Every LowOperand (map (λ (t : Lexeme). record { action = a; token = t }) os)
+given-low a [] s h = tt
+given-low a (t ∷ os) s h = ((s, h .0), given-low a os s (h .1))
 
-pub operands-low : (ls : List Acted) (a : ℕ) → Every (GivenAll IsLow) ls → Every LowOperand (operandsFrom a ls)
-operands-low [] a h = tt
-operands-low (l ∷ ls) a h =
+pub operands-low : (ls : List Acted) (a : ℕ) → a + length ls ≤ 65536 → Every (GivenAll IsLow) ls → Every LowOperand (operandsFrom a ls)
+operands-low [] a s h = tt
+operands-low (l ∷ ls) a s h =
     every-append LowOperand (map (λ (t : Lexeme). record { action = a; token = t }) (l .operands)) (operandsFrom (suc a) ls)
-    (given-low a (l .operands) (h .0)) (operands-low ls (suc a) (h .1))
+    (given-low a (l .operands) (omega (arith, s)) (h .0)) (operands-low ls (suc a) (omega (arith, s)) (h .1))
 
 -- ---- labels
 
@@ -153,6 +180,12 @@ module _ (os : List R.Operand) where
 
 -- ---- levels
 
+part-most : (p : Part) (o : ℕ) → blockNumber (partOf p o) ≤ o * 4 + 4
+part-most body o = omega arith
+part-most try o = omega arith
+part-most catch o = omega arith
+part-most finally o = omega arith
+
 -- an undetermined net names one of the actions below M
 module _ (M : ℕ) where
   abbrev pub Under : Net → Type 0
@@ -170,25 +203,38 @@ module _ (M : ℕ) where
       let b = suc a + actionsInside bs in
       moved-under (deltaOf n (length os) (nameIsEmpty os)) a h (λ q. netFrom b q x) (omega (arith, g)) (λ q. net-under x b q (omega (arith, g)))
 
-  abbrev pub Numbered : Opened → Type 0
-  Numbered o = o .first + allActions (o .items) ≤ M
+  -- its actions are below M, its owner is before them, and there are at most K unclosed strings
+  module _ (K : ℕ) where
+    pub record Numbered (o : Opened) : Type 0 where
+      pub actions : o .first + allActions (o .items) ≤ M
+      pub block : blockNumber (blockOf (o .owner)) ≤ 4 * o .first
+      pub unclosed : ownUnclosed (o .items) ≤ K
 
-  mutual
-    pub opened-under : (x : Items) (a : ℕ) → a + allActions x ≤ M → Every Numbered (openedOf a x)
-    opened-under done a h = tt
-    opened-under (label t x) a h = opened-under x a h
-    opened-under (action n os bs x) a h =
-        let b = suc a + actionsInside bs in
-        every-append Numbered (openedIn a (suc a) bs) (openedOf b x)
-        (opened-unders bs a (suc a) (omega (arith, h))) (opened-under x b (omega (arith, h)))
+    mutual
+      pub opened-under : (x : Items) (a ℓ m : ℕ) → a + allActions x ≤ M → ops (actedOf ℓ m x) ≤ K → Every Numbered (openedOf a x)
+      opened-under done a ℓ m h k = tt
+      opened-under (label t x) a ℓ m h k = opened-under x a ℓ m h k
+      opened-under (action n os bs x) a ℓ m h k =
+          let b = suc a + actionsInside bs in
+          let m′ = m + length (openedIn 0 0 bs) in
+          let s = ops-append (actedIn m bs) (actedOf ℓ m′ x) in
+          every-append Numbered (openedIn a (suc a) bs) (openedOf b x)
+          (opened-unders bs a (suc a) m (omega arith) (omega (arith, h)) (omega (arith, k, s))) (opened-under x b ℓ m′ (omega (arith, h)) (omega (arith, k, s)))
 
-    opened-unders : (bs : Blocks) (o a : ℕ) → a + actionsInside bs ≤ M → Every Numbered (openedIn o a bs)
-    opened-unders no-blocks o a h = tt
-    opened-unders (block p x bs) o a h =
-        let b = a + allActions x in (
-          omega (arith, h),
-          every-append Numbered (openedOf a x) (openedIn o b bs) (opened-under x a (omega (arith, h))) (opened-unders bs o b (omega (arith, h))),
-        )
+      opened-unders : (bs : Blocks) (o a m : ℕ) → o < a → a + actionsInside bs ≤ M → ops (actedIn m bs) ≤ K → Every Numbered (openedIn o a bs)
+      opened-unders no-blocks o a m l h k = tt
+      opened-unders (block p x bs) o a m l h k =
+          let b = a + allActions x in
+          let m′ = suc m + length (openedOf 0 x) in
+          let s = ops-append (actedOf m (suc m) x) (actedIn m′ bs) in (
+            record {
+              actions = omega (arith, h);
+              block = omega (arith, l, part-most p o);
+              unclosed = omega (arith, k, s, own-unclosed-few x m (suc m));
+            },
+            every-append Numbered (openedOf a x) (openedIn o b bs) (opened-under x a m (suc m) (omega (arith, h)) (omega (arith, k, s)))
+                (opened-unders bs o b m′ (omega (arith, l)) (omega (arith, h)) (omega (arith, k, s))),
+          )
 
 abbrev pub NetLow : Net → Type 0
 NetLow n = InRange (netEntry n)
@@ -204,12 +250,12 @@ nets-low (height z ∷ l) f u = (height-low z (f z (List·Memᴰ·head refl)), n
 nets-low (undetermined b ∷ l) f u = (u .0, nets-low l (λ q m. f q (List·Memᴰ·tail m)) (u .1))
 
 abbrev pub LowLevel : L.Level → Type 0
-LowLevel v = Small (v .actions) × InRange (v .net)
+LowLevel v = Small (blockNumber (v .block)) × (Small (v .actions) × (Small (v .unclosed) × InRange (v .net)))
 
 abbrev pub CountLow : R.Level → Type 0
-CountLow l = Small (l .actions)
+CountLow l = Small (blockNumber (blockOf (l .owner))) × (Small (l .actions) × Small (l .unclosed))
 
 pub levels-low : (ls : List R.Level) (ns : List Net) → Every CountLow ls → Every NetLow ns → Every LowLevel (levelEntries ls ns)
 levels-low [] ns h g = tt
 levels-low (l ∷ ls) [] h g = tt
-levels-low (l ∷ ls) (n ∷ ns) h g = ((h .0, g .0), levels-low ls ns (h .1) (g .1))
+levels-low (l ∷ ls) (n ∷ ns) h g = ((h .0 .0, (h .0 .1 .0, (h .0 .1 .1, g .0))), levels-low ls ns (h .1) (g .1))

@@ -18,7 +18,7 @@ use Rattle.entries.specs.declared.Action.{Action}
 use Rattle.entries.specs.declared.Operand.{Operand}
 use Rattle.entries.specs.declared.Level.{Level}
 use Rattle.entries.specs.declared.Label.{Label}
-use Rattle.entries.specs.Entries.{actionOf, operandOf, levelOf, labelOf}
+use Rattle.entries.specs.Entries.{actionOf, operandOf, levelIn, labelOf}
 use Rattle.grammar.specs.Reading as G
 use Rattle.grammar.specs.Refusals.{NotGrammatical}
 use Rattle.grammar.specs.Demand3.{Acceptable, Unreadable}
@@ -66,7 +66,7 @@ module _ {L : Type 0} {entry : G.Label → L} {room : ℕ} {places text : List �
   operands-handed i h d = Handed.operands-handed a i h d
 
   pub levels-handed : (i : ℕ) → i < c .levels → (d : Level)
-      → levelOf (getD (y .levels) i 0) ≡ getD (levelEntries (a .reading .levels) (a .nets)) i d
+      → levelIn (y .levels) i ≡ getD (levelEntries (a .reading .levels) (a .nets)) i d
   levels-handed i h d = Handed.levels-handed a i h d
 
 module _ {room : ℕ} {places text : List ℕ} {x y : Tables ℕ} {c : Counts} (a : Accepts labelEntryWord room places text x y c) where
