@@ -21,7 +21,7 @@ fn check_1024(
     let mut held_tokens = [0u64; 1024];
     let mut held_actions = [0u64; 513];
     let mut held_operands = [0u64; 513];
-    let mut held_levels = [0u64; 513];
+    let mut held_levels = [0u64; 1026];
     let mut held_labels = [0u64; 513];
     read_held(
         text,
@@ -55,7 +55,7 @@ fn check_4096(
     let mut held_tokens = [0u64; 4096];
     let mut held_actions = [0u64; 2049];
     let mut held_operands = [0u64; 2049];
-    let mut held_levels = [0u64; 2049];
+    let mut held_levels = [0u64; 4098];
     let mut held_labels = [0u64; 2049];
     let reading = read_held(
         text,
@@ -89,7 +89,7 @@ fn check_65536(
     let mut held_tokens = [0u64; 65536];
     let mut held_actions = [0u64; 32769];
     let mut held_operands = [0u64; 32769];
-    let mut held_levels = [0u64; 32769];
+    let mut held_levels = [0u64; 65538];
     let mut held_labels = [0u64; 32769];
     let reading = read_held(
         text,

@@ -8,7 +8,7 @@ use lib.ListN.{length, take, drop, length-map, List·getD-map}
 use lib.Seq.{ext-getD, length-take-le, getD-take}
 use Rattle.grammar.specs.Reading as G
 use Rattle.entries.specs.declared.Label.{Label}
-use Rattle.entries.specs.Entries.{labelOf}
+use Rattle.entries.specs.Entries.{levelPlaces, labelOf}
 use Rattle.reading.specs.Tables.{front, labelEntry, labelEntryWord}
 use Rattle.handover.specs.declared.Counts.{Counts}
 use Rattle.handover.specs.declared.Reading.{Reading}
@@ -27,7 +27,7 @@ module _ (text tk ac op lv ws tk′ ac′ op′ lv′ part′ : List ℕ) (room 
       → ReadsScratch room text (lent tk ac op lv ws) (lent tk′ ac′ op′ lv′ (part′ ++ drop n ws)) r
   unfolding ReadsScratch
   scratch-read =
-      cut labelEntryWord text (length tk) (length ac ∷ length op ∷ length lv ∷ room ∷ []) _ _ _ _ (record {
+      cut labelEntryWord text (length tk) (length ac ∷ length op ∷ levelPlaces lv ∷ room ∷ []) _ _ _ _ (record {
         tokens = whole-part tk tk′;
         actions = whole-part ac ac′;
         operands = whole-part op op′;

@@ -20,12 +20,13 @@ use Rattle.lexemes.specs.Lexemes.{numbered}
 use Rattle.grammar.specs.Reading as G
 use Rattle.grammar.specs.Refusals.{Outcome, reads, entries, Short, Answers, rows₁₋₅, rows₆₋₇, row₈, fits}
 use Rattle.grammar.proofs.Theorems.{halves}
+use Rattle.entries.specs.Entries.{levelPlaces}
 use Rattle.reading.specs.Tables.{front, labelEntryWord}
 use Rattle.handover.specs.declared.Counts.{Counts}
 use Rattle.handover.specs.declared.Reading.{Reading}
 use Rattle.handover.specs.declared.Reading.the-variants as R
-use Rattle.handover.specs.Reading.{Tables, places, lent, Reads, ReadsFor, ReadsWords}
-use Rattle.as2_pcode.proofs.Handed.{lexed}
+use Rattle.handover.specs.Reading.{Tables, places, lent, Accepts, Reads, ReadsFor, ReadsWords}
+use Rattle.as2_pcode.proofs.Handed.{lexed, read}
 use Rattle.as2_pcode.proofs.Kept.{numbered-length}
 use Rattle.held.specs.Held.{AmpleTokens, AmpleEntries, Ample}
 use Rattle.held.proofs.Fills.{Fills, tokens-fill, actions-fill, operands-fill, levels-fill, labels-fill, tokens-fit, actions-fit, operands-fit, levels-fit, labels-fit}
@@ -73,6 +74,11 @@ few-entries room text ts {R} e (reads r d) k =
     at (suc (suc zero)) n = omega (arith, n, halves r .2)
     at (suc (suc (suc zero))) n = omega (arith, n, halves r .3)
     at (suc (suc (suc (suc j)))) n = omega arith
+
+pub few-levels : {L : Type 0} {entry : G.Label → L} {room : ℕ} {ps text : List ℕ} {x y : Tables L} {c : Counts} → Accepts entry room ps text x y c → c .levels ≤ 65536
+few-levels {room = room} {text = text} {c = c} a =
+    let l = lexed room (a .tokens) text (a .lexed) in
+    omega (arith, ap (λ (k : Counts). k .levels) (a .counts), halves (read a) .2, few text (a .tokens) (l .made), numbered-length text (a .tokens) 0, l .small)
 
 still-short : (n : ℕ) {m room e : ℕ} → n ≤ 65536 → 2 * e ≤ n + 2 → Serves (AmpleEntries n m) m room → m < e → room < e
 still-short n small h (inl g) s = omega (arith, g, s)
@@ -150,7 +156,7 @@ module _ {L : Type 0} (entry : G.Label → L) (text : List ℕ) (room : ℕ) (ps
           tokens = part-fills (t .tokens) (tokens-fill a) (tokens-fit a) i;
           actions = part-fills (t .actions) (actions-fill a) (actions-fit a) i;
           operands = part-fills (t .operands) (operands-fill a) (operands-fit a) i;
-          levels = part-fills (t .levels) (levels-fill a) (levels-fit a) i;
+          levels = part-fills (t .levels) (levels-fill a) (omega (arith, levels-fit a)) i;
           labels = part-fills (t .labels) (labels-fill a) (labels-fit a) i;
         };
         counts = a .counts;
@@ -168,16 +174,30 @@ module _ {L : Type 0} (entry : G.Label → L) (text : List ℕ) (room : ℕ) (ps
 
 -- ---- tables that are cut to the places of lent ones
 
+-- the least of the lent places and the held ones serves for the lent ones, if the held ones are enough
+serves-for : (E : ℕ → Type 0) (m room w : ℕ) → m ≡ min room w → E w → Serves (E m) m room
+serves-for E m room w e g = by (eq-or-lt-of-le {n = m} {m = room} (omega (arith, e)))
+  where
+    by : (m ≡ room) ⊎ (m < room) → Serves (E m) m room
+    by (inl k) = inl k
+    by (inr k) = inr (omega (arith, k), subst E (omega (arith, e, k)) g)
+
 module _ {A : Type 0} (t : List A) (n room : ℕ) (e : n ≡ min room (length t)) where
   pub cut-long : n ≡ length (take n t)
   cut-long = omega (arith, length-take n t, e)
 
   pub cut-serves : (E : ℕ → Type 0) → E (length t) → Serves (E (length (take n t))) (length (take n t)) room
-  cut-serves E g = by (eq-or-lt-of-le {n = n} {m = room} (omega (arith, e)))
-    where
-      by : (n ≡ room) ⊎ (n < room) → Serves (E (length (take n t))) (length (take n t)) room
-      by (inl k) = inl (sym cut-long ∙ k)
-      by (inr k) = inr (omega (arith, cut-long, k), subst E (omega (arith, cut-long, e, k)) g)
+  cut-serves E g = serves-for E (length (take n t)) room (length t) (sym cut-long ∙ e) g
+
+-- a level takes two words
+module _ (t : List ℕ) (n room : ℕ) (e : n ≡ min room (levelPlaces t)) where
+  pub levels-long : 2 * n ≡ length (take (2 * n) t)
+  levels-long = omega (arith, length-take (2 * n) t, e)
+
+  levels-serve : (E : ℕ → Type 0) → E (levelPlaces t) → Serves (E (levelPlaces (take (2 * n) t))) (levelPlaces (take (2 * n) t)) room
+  levels-serve E g =
+      let h : levelPlaces (take (2 * n) t) ≡ n = omega (arith, levels-long) in
+      serves-for E (levelPlaces (take (2 * n) t)) room (levelPlaces t) (h ∙ e) g
 
 pub cut-part : {A : Type 0} (t : List A) (n : ℕ) (y : List A) → Part (take n t) y t (y ++ drop n t)
 cut-part t n y = record { rest = drop n t; before = sym (take-append-drop n t); after = refl }
@@ -185,25 +205,25 @@ cut-part t n y = record { rest = drop n t; before = sym (take-append-drop n t); 
 -- held tables h, of which n places are read into
 module _ (text : List ℕ) (room a o l b : ℕ) (h y : Tables ℕ) (n : Counts) (am : Ample (length text) h)
     (et : n .tokens ≡ min room (length (h .tokens))) (ea : n .actions ≡ min a (length (h .actions))) (eo : n .operands ≡ min o (length (h .operands)))
-    (el : n .levels ≡ min l (length (h .levels))) (eb : n .labels ≡ min b (length (h .labels))) where
+    (el : n .levels ≡ min l (levelPlaces (h .levels))) (eb : n .labels ≡ min b (length (h .labels))) where
   abbrev E : ℕ → Type 0
   E = AmpleEntries (length text)
 
   pub held-cut : (r : Reading)
-      → ReadsWords text (lent (take (n .tokens) (h .tokens)) (take (n .actions) (h .actions)) (take (n .operands) (h .operands)) (take (n .levels) (h .levels)) (take (n .labels) (h .labels))) y r
+      → ReadsWords text (lent (take (n .tokens) (h .tokens)) (take (n .actions) (h .actions)) (take (n .operands) (h .operands)) (take (2 * n .levels) (h .levels)) (take (n .labels) (h .labels))) y r
       → ReadsFor labelEntryWord room (a ∷ o ∷ l ∷ b ∷ []) text h
-      (lent (y .tokens ++ drop (n .tokens) (h .tokens)) (y .actions ++ drop (n .actions) (h .actions)) (y .operands ++ drop (n .operands) (h .operands)) (y .levels ++ drop (n .levels) (h .levels)) (y .labels ++ drop (n .labels) (h .labels))) r
+      (lent (y .tokens ++ drop (n .tokens) (h .tokens)) (y .actions ++ drop (n .actions) (h .actions)) (y .operands ++ drop (n .operands) (h .operands)) (y .levels ++ drop (2 * n .levels) (h .levels)) (y .labels ++ drop (n .labels) (h .labels))) r
   held-cut =
       cut labelEntryWord text room (a ∷ o ∷ l ∷ b ∷ []) _ y h _ (record {
         tokens = cut-part (h .tokens) (n .tokens) (y .tokens);
         actions = cut-part (h .actions) (n .actions) (y .actions);
         operands = cut-part (h .operands) (n .operands) (y .operands);
-        levels = cut-part (h .levels) (n .levels) (y .levels);
+        levels = cut-part (h .levels) (2 * n .levels) (y .levels);
         labels = cut-part (h .labels) (n .labels) (y .labels);
       })
       (cut-serves (h .tokens) (n .tokens) room et (AmpleTokens (length text)) (am .tokens))
       (all-serve (length text)
       (cut-serves (h .actions) (n .actions) a ea E (am .actions))
       (cut-serves (h .operands) (n .operands) o eo E (am .operands))
-      (cut-serves (h .levels) (n .levels) l el E (am .levels))
+      (levels-serve (h .levels) (n .levels) l el E (am .levels))
       (cut-serves (h .labels) (n .labels) b eb E (am .labels)))

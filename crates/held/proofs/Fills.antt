@@ -1,7 +1,7 @@
 -- What an accepted reading puts into each table: how many words, and that they have a place. Assumes nothing.
 use mathlib.Core.Path.{_≡_, sym, ap, _∙_}
 use mathlib.Core.List.{List, map}
-use Prim.Native.Nat.{ℕ, _≤_, _<_}
+use Prim.Native.Nat.{ℕ, _*_, _≤_, _<_}
 use native.Mathlib.Omega.{arith}
 use lib.ListN.{length, drop, getD, length-map, length-append}
 use Rattle.answers.specs.Answers.{accepted}
@@ -9,9 +9,10 @@ use Rattle.tokens.specs.Tokens.{wordOf}
 use Rattle.lexer.proofs.Theorems as lexer
 use Rattle.grammar.specs.Reading as G
 use Rattle.grammar.specs.Refusals.{entries, Answers, fits}
-use Rattle.entries.specs.Entries.{actionWord, levelWord}
+use Rattle.entries.specs.Entries.{actionWord}
 use Rattle.reading.specs.Tables.{front, actionEntries, levelEntries, actionWords, operandEntryWord, operandWords, levelWords, labelEntryWord}
 use Rattle.reading.proofs.Entries.{entry-count, level-count}
+use Rattle.reading.proofs.LevelSets.{words-length}
 use Rattle.handover.specs.declared.Counts.{Counts}
 use Rattle.handover.specs.declared.Reading.{Reading}
 use Rattle.handover.specs.declared.Reading.the-variants as R
@@ -54,12 +55,12 @@ module _ {L : Type 0} {entry : G.Label → L} {room : ℕ} {ps text : List ℕ} 
         is = ap (λ (t : Tables L). t .operands) (a .tables);
       }
 
-  pub levels-fill : Fills (levelWords (a .reading) (a .nets)) (c .levels) (x .levels) (y .levels)
+  pub levels-fill : Fills (levelWords (a .reading) (a .nets)) (2 * c .levels) (x .levels) (y .levels)
   levels-fill =
       record {
         many =
-            length-map (levelEntries (a .reading .levels) (a .nets)) levelWord ∙ level-count (a .reading .levels) (a .nets) (nets-long a)
-            ∙ sym (ap (λ (k : Counts). k .levels) (a .counts));
+            words-length (levelEntries (a .reading .levels) (a .nets))
+            ∙ ap (λ (k : ℕ). 2 * k) (level-count (a .reading .levels) (a .nets) (nets-long a) ∙ sym (ap (λ (k : Counts). k .levels) (a .counts)));
         is = ap (λ (t : Tables L). t .levels) (a .tables);
       }
 

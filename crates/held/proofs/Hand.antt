@@ -2,6 +2,7 @@
 use mathlib.Core.Path.{_≡_, sym, ap, subst, _∙_}
 use mathlib.Core.List.{List, _++_}
 use Prim.Native.Nat.{ℕ}
+use native.Mathlib.Omega.{arith}
 use lib.ListN.{length, take, drop}
 use lib.Seq.{take-at}
 use Rattle.answers.specs.Answers.{refusal}
@@ -14,6 +15,7 @@ use Rattle.handover.specs.declared.Reading.the-variants as R
 use Rattle.handover.specs.Reading.{Tables, places, filled, Accepts, ReadsFor}
 use Rattle.held.specs.Held.{Holds, Handable, handed}
 use Rattle.held.proofs.Fills.{Fills, inside, refilled, tokens-fill, actions-fill, operands-fill, levels-fill, labels-fill, tokens-fit, actions-fit, operands-fit, levels-fit, labels-fit}
+use Rattle.held.proofs.Cut.{few-levels}
 
 -- ---- what was read, and what was refused
 
@@ -39,8 +41,9 @@ module _ (text : List ℕ) (old h x : Tables ℕ) (c : Counts) (a : Accepts labe
         tokens = (inside (tokens-fill a), tokens-fit a);
         actions = (inside (actions-fill a), actions-fit a);
         operands = (inside (operands-fill a), operands-fit a);
-        levels = (inside (levels-fill a), levels-fit a);
+        levels = (inside (levels-fill a), omega (arith, levels-fit a));
         labels = (inside (labels-fill a), labels-fit a);
+        few-levels = few-levels a;
       }
 
   pub handed-filled : handed c h x ≡ filled labelEntryWord (a .tokens) (a .reading) (a .nets) x

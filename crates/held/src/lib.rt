@@ -19,7 +19,7 @@ pub fn least(a: usize, b: usize) -> usize
 }
 
 // Reads a text into held tables, which have places for whatever it can have, with the answer for tables of so many places: each
-// is cut to that length, so that rows 5 and 8 come out right.
+// is cut to as many, so that rows 5 and 8 come out right. A level takes two words.
 pub fn read_held(
     text: &[u8],
     tokens: usize,
@@ -39,14 +39,14 @@ pub fn read_held(
     let t = least(tokens, held_tokens.len());
     let a = least(actions, held_actions.len());
     let o = least(operands, held_operands.len());
-    let l = least(levels, held_levels.len());
+    let l = least(levels, held_levels.len() / 2);
     let b = least(labels, held_labels.len());
     as2_pcode::read(
         text,
         &mut held_tokens[..t],
         &mut held_actions[..a],
         &mut held_operands[..o],
-        &mut held_levels[..l],
+        &mut held_levels[..2 * l],
         &mut held_labels[..b],
     )
 }
@@ -71,7 +71,7 @@ pub fn hand_held(
     copy_front(held_tokens, counts.tokens, tokens);
     copy_front(held_actions, counts.actions, actions);
     copy_front(held_operands, counts.operands, operands);
-    copy_front(held_levels, counts.levels, levels);
+    copy_front(held_levels, 2 * counts.levels, levels);
     copy_front(held_labels, counts.labels, labels);
 }
 

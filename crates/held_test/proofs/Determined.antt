@@ -13,7 +13,7 @@ use Rattle.grammar.specs.Nets.{Net}
 use Rattle.grammar.specs.Reading as G
 use Rattle.grammar.specs.Reading.{readingOf}
 use Rattle.entries.specs.declared.Level.{Level}
-use Rattle.entries.specs.Entries.{levelOf}
+use Rattle.entries.specs.Entries.{levelOf, levelIn}
 use Rattle.reading.specs.Tables.{levelEntries, labelEntryWord}
 use Rattle.handover.specs.declared.Counts.{Counts}
 use Rattle.handover.specs.declared.Reading.{Reading}
@@ -37,10 +37,10 @@ module _ {room : ℕ} {ps text : List ℕ} {x y : Tables ℕ} {c : Counts} (a : 
   unfolding readingOf
   some-level = subst (λ (q : G.Reading). 0 < length (q .levels)) (read a .told) (omega arith)
 
-  top-net : isUndetermined (levelOf (getD (y .levels) 0 0) .net) ≡ isUndetermined (topNet (a .nets))
+  top-net : isUndetermined (levelIn (y .levels) 0 .net) ≡ isUndetermined (topNet (a .nets))
   top-net =
-      ap (λ (l : Level). isUndetermined (l .net)) (levels-handed a 0 (omega (arith, some-level, ap (λ (k : Counts). k .levels) (a .counts))) (levelOf 0))
-      ∙ ap isUndetermined (first-net (a .reading .levels) (a .nets) (levelOf 0) some-level (nets-long a))
+      ap (λ (l : Level). isUndetermined (l .net)) (levels-handed a 0 (omega (arith, some-level, ap (λ (k : Counts). k .levels) (a .counts))) (levelOf 0 0))
+      ∙ ap isUndetermined (first-net (a .reading .levels) (a .nets) (levelOf 0 0) some-level (nets-long a))
 
 -- ---- the answers
 
@@ -49,7 +49,7 @@ module _ (text : List ℕ) (h x : Tables ℕ) (r : Reading) (w : Holds (length (
   unfolding ReadsDetermined
   refused f e = (inl (held-refused w e), refl)
 
-  module _ (c : Counts) (e : r ≡ R.Read c) (k : Bool) (t : k ≡ isUndetermined (levelOf (getD (h .levels) 0 0) .net)) where
+  module _ (c : Counts) (e : r ≡ R.Read c) (k : Bool) (t : k ≡ isUndetermined (levelIn (h .levels) 0 .net)) where
     pub undetermined : k ≡ true → ReadsDetermined text x x (R.Refused F.Undetermined)
     unfolding ReadsDetermined
     undetermined f =

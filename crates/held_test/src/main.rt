@@ -14,15 +14,15 @@ use printing::print_refusal;
 use printing::print_text;
 ghost use mathlib.Core.Path.{_≡_};
 ghost use Prim.Native.Nat.{_≤_};
-ghost use lib.ListN.{length, getD};
-ghost use Rattle.entries.specs.Entries.{levelOf};
+ghost use lib.ListN.{length};
+ghost use Rattle.entries.specs.Entries.{levelIn};
 ghost use Rattle.handover.specs.Reading.{places, lent};
 ghost use Rattle.held.specs.Held.{Holds};
 ghost use Rattle.held_test.specs.Determined.{isUndetermined, ReadsDetermined};
 
 // Whether the net of the top level is undetermined.
 fn is_undetermined(levels: &[u64]) -> bool
-    ensures { λ r. ⌜ r ≡ isUndetermined (levelOf (getD (now (levels .entry)) 0 0) .net) ⌝ }
+    ensures { λ r. ⌜ r ≡ isUndetermined (levelIn (now (levels .entry)) 0 .net) ⌝ }
 {
     let top = level_in(levels, 0);
     let net = top.net;
@@ -89,14 +89,14 @@ fn read_determined(
     let mut held_tokens = [0u64; 65536];
     let mut held_actions = [0u64; 32769];
     let mut held_operands = [0u64; 32769];
-    let mut held_levels = [0u64; 32769];
+    let mut held_levels = [0u64; 65538];
     let mut held_labels = [0u64; 32769];
     let reading = read_held(
         text,
         tokens.len(),
         actions.len(),
         operands.len(),
-        levels.len(),
+        levels.len() / 2,
         labels.len(),
         &mut held_tokens,
         &mut held_actions,
@@ -160,7 +160,7 @@ fn try_text(text: &[u8]) {
     let mut tokens = [9u64; 16];
     let mut actions = [9u64; 4];
     let mut operands = [9u64; 4];
-    let mut levels = [9u64; 4];
+    let mut levels = [9u64; 8];
     let mut labels = [9u64; 4];
     print_answer(read_determined(
         text,

@@ -1,7 +1,8 @@
 -- `held::read_held` meets its contract: each table is cut, and the answer is that for the lent ones. Assumes nothing.
 use borrow.Author.Needs.{needs}
+use native.Mathlib.Omega.{arith}
 use Rattle.handover.specs.Reading.{lent}
-use Rattle.held.proofs.Cut.{cut-long, held-cut}
+use Rattle.held.proofs.Cut.{cut-long, levels-long, held-cut}
 use Rattle.held.proofs.read_held.Statement.{statement}
 use Rattle.held.proofs.read_held.Tie as tie
 
@@ -15,7 +16,7 @@ cut-operands : tie.Need-slice-aggregate-read-3
 cut-operands c = cut-long (c .before .before .before .before .before .before .before .before .before .before .before .before .before .before .args .held-operands .now) _ _ (c .before .before .before .before .before .least3 .ensures)
 
 cut-levels : tie.Need-slice-aggregate-read-4
-cut-levels c = cut-long (c .before .before .before .before .before .before .before .before .before .before .before .before .before .before .before .args .held-levels .now) _ _ (c .before .before .before .before .before .least4 .ensures)
+cut-levels c = levels-long (c .before .before .before .before .before .before .before .before .before .before .before .before .before .before .before .args .held-levels .now) _ _ (c .before .before .before .before .before .least4 .ensures)
 
 cut-labels : tie.Need-slice-aggregate-read-5
 cut-labels c = cut-long (c .before .before .before .before .before .before .before .before .before .before .before .before .before .before .before .before .args .held-labels .now) _ _ (c .before .before .before .before .before .least5 .ensures)
@@ -51,7 +52,8 @@ read-held-spec =
     cut-actions
     (λ c. search needs)
     cut-operands
-    (λ c. search needs)
+    (λ c. omega (arith, c .before .before .before .before .least4 .ensures))
+    (λ c. omega (arith, c .before .before .before .before .least4 .ensures))
     cut-levels
     (λ c. search needs)
     cut-labels
