@@ -1,5 +1,6 @@
 -- What the calls for C return and write of the entries of the tables, and of a reading. `old` is
 -- what an `out` array held; `sets old 0 l` is `old` with the entries of l in place of its first.
+use mathlib.Core.Bool.{Bool, cond}
 use mathlib.Core.List.{List, [], _∷_}
 use Prim.Native.Nat.{ℕ}
 use lib.IntN.{ℤ, pos}
@@ -22,8 +23,12 @@ use Rattle.handover.specs.declared.Reading.the-variants as R
 abbrev pub actionAfter : Action → List ℕ → List ℕ
 actionAfter a old = sets old 0 (numberOf (a .name) ∷ a .level ∷ a .first ∷ a .count ∷ [])
 
+abbrev pub oneIf : Bool → ℕ
+oneIf b = cond b 1 0
+
+-- action and token of an operand, and whether it is an unclosed string
 abbrev pub operandAfter : Operand → List ℕ → List ℕ
-operandAfter o old = sets old 0 (o .action ∷ o .token ∷ [])
+operandAfter o old = sets old 0 (o .action ∷ o .token ∷ oneIf (o .unclosed) ∷ [])
 
 abbrev pub labelAfter : Label → List ℕ → List ℕ
 labelAfter l old = sets old 0 (l .level ∷ l .token ∷ l .position ∷ [])
@@ -51,10 +56,10 @@ abbrev pub netHeight : Net → ℤ
 netHeight (N.Height h) = h
 netHeight (N.Undetermined a) = pos 0
 
--- block, action count and net of a level, its height aside
+-- block, action count and net of a level, its height aside, and its count of unclosed strings
 abbrev pub levelAfter : Level → List ℕ → List ℕ
 levelAfter l old =
-    sets old 0 (blockPart (l .block) ∷ ownerOf (l .block) ∷ l .actions ∷ netKind (l .net) ∷ netAction (l .net) ∷ [])
+    sets old 0 (blockPart (l .block) ∷ ownerOf (l .block) ∷ l .actions ∷ netKind (l .net) ∷ netAction (l .net) ∷ l .unclosed ∷ [])
 
 abbrev pub heightAfter : Level → List ℤ → List ℤ
 heightAfter l old = sets old 0 (netHeight (l .net) ∷ [])

@@ -8,7 +8,7 @@ use entries::Operand;
 use entries::owner_of;
 use handover::Reading;
 ghost use mathlib.Core.Path.{_≡_};
-ghost use Rattle.c_entries.specs.Entries.{actionAfter, operandAfter, blockPart, netKind, netAction, netHeight, levelAfter, heightAfter, labelAfter, readNumber, readAfter};
+ghost use Rattle.c_entries.specs.Entries.{actionAfter, oneIf, operandAfter, blockPart, netKind, netAction, netHeight, levelAfter, heightAfter, labelAfter, readNumber, readAfter};
 
 pub fn tell_action(action: Action, out: &mut [u64; 4])
     ensures { λ r. ⌜ now (out .exit) ≡ actionAfter action (now (out .entry)) ⌝ }
@@ -20,11 +20,18 @@ pub fn tell_action(action: Action, out: &mut [u64; 4])
     out[3] = action.count as u64;
 }
 
-pub fn tell_operand(operand: Operand, out: &mut [u64; 2])
+fn one_if(b: bool) -> u64
+    ensures { λ r. ⌜ r ≡ oneIf b ⌝ }
+{
+    if b { 1 } else { 0 }
+}
+
+pub fn tell_operand(operand: Operand, out: &mut [u64; 3])
     ensures { λ r. ⌜ now (out .exit) ≡ operandAfter operand (now (out .entry)) ⌝ }
 {
     out[0] = operand.action as u64;
     out[1] = operand.token as u64;
+    out[2] = one_if(operand.unclosed);
 }
 
 pub fn tell_label(label: Label, out: &mut [u64; 3])
@@ -76,7 +83,7 @@ fn net_height(n: Net) -> i64
     }
 }
 
-pub fn tell_level(level: Level, out: &mut [u64; 5], height: &mut [i64; 1])
+pub fn tell_level(level: Level, out: &mut [u64; 6], height: &mut [i64; 1])
     ensures { λ r. ⌜ now (out .exit) ≡ levelAfter level (now (out .entry)) ⌝ }
     ensures { λ r. ⌜ now (height .exit) ≡ heightAfter level (now (height .entry)) ⌝ }
 {
@@ -87,6 +94,7 @@ pub fn tell_level(level: Level, out: &mut [u64; 5], height: &mut [i64; 1])
     out[2] = level.actions as u64;
     out[3] = net_kind(net);
     out[4] = net_action(net);
+    out[5] = level.unclosed as u64;
     height[0] = net_height(net);
 }
 

@@ -6,7 +6,7 @@ ghost use lib.ListN.{length};
 ghost use Rattle.actions.specs.Numbers.{actionAt};
 ghost use Rattle.handover.specs.Reading.{lent};
 ghost use Rattle.tokens.specs.Tokens.{span, tokenOf, within};
-ghost use Rattle.entries.specs.Entries.{actionOf, operandOf, levelOf, labelOf};
+ghost use Rattle.entries.specs.Entries.{actionOf, operandOf, levelAt, labelOf};
 ghost use Rattle.lexer.specs.Lexing.{counted, lexText, tableAfter};
 ghost use Rattle.pcode.specs.Deltas.{deltaAnswer};
 ghost use Rattle.values.specs.Values.{valueAnswer};
@@ -41,7 +41,7 @@ pub extern "C" fn pcode_read(
     c_entries::tell_reading(answer, out)
 }
 
-// ---- the entry of a table's word
+// ---- the entry of a table's word, a level's of its two
 
 #[no_mangle]
 pub extern "C" fn pcode_token(word: u64, out: &mut [u64; 5])
@@ -58,18 +58,18 @@ pub extern "C" fn pcode_action(word: u64, out: &mut [u64; 4])
 }
 
 #[no_mangle]
-pub extern "C" fn pcode_operand(word: u64, out: &mut [u64; 2])
+pub extern "C" fn pcode_operand(word: u64, out: &mut [u64; 3])
     ensures { λ r. ⌜ now (out .exit) ≡ operandAfter (operandOf word) (now (out .entry)) ⌝ }
 {
     c_entries::tell_operand(entries::operand_of(word), out)
 }
 
 #[no_mangle]
-pub extern "C" fn pcode_level(word: u64, out: &mut [u64; 5], height: &mut [i64; 1])
-    ensures { λ r. ⌜ now (out .exit) ≡ levelAfter (levelOf word) (now (out .entry)) ⌝ }
-    ensures { λ r. ⌜ now (height .exit) ≡ heightAfter (levelOf word) (now (height .entry)) ⌝ }
+pub extern "C" fn pcode_level(words: &[u64; 2], out: &mut [u64; 6], height: &mut [i64; 1])
+    ensures { λ r. ⌜ now (out .exit) ≡ levelAfter (levelAt (now (words .entry)) 0) (now (out .entry)) ⌝ }
+    ensures { λ r. ⌜ now (height .exit) ≡ heightAfter (levelAt (now (words .entry)) 0) (now (height .entry)) ⌝ }
 {
-    c_entries::tell_level(entries::level_of(word), out, height)
+    c_entries::tell_level(entries::level_of(words[0], words[1]), out, height)
 }
 
 #[no_mangle]

@@ -19,7 +19,7 @@ written c =
     let b = n .before .before in
     let a = b .before .args in (
       (λ i. sets (a .out .now) 0
-          (b .block-part .ensures i ∷ n .before .owner-of .ensures i ∷ a .level .actions ∷ n .net-kind .ensures i ∷ c .before .net-action .ensures i ∷ [])),
+          (b .block-part .ensures i ∷ n .before .owner-of .ensures i ∷ a .level .actions ∷ n .net-kind .ensures i ∷ c .before .net-action .ensures i ∷ a .level .unclosed ∷ [])),
       ap (set (a .height .now) 0) (toZ-ofZ w64 (c .net-height .result) (fits c) ∙ c .net-height .ensures),
     )
 
@@ -35,6 +35,7 @@ tell-level-spec =
     (λ c κs. search needs)
     (λ c. search needs)
     (λ c κs. search needs)
+    (λ c. search needs)
     (λ c. search needs)
     (λ c κs. search needs)
     (λ c. search needs)
