@@ -81,7 +81,7 @@ impl Sides {
 
 impl Subject {
     fn new(what: &'static str, text: Vec<u8>) -> Self {
-        let tables = [(); 5].map(|_| vec![0; text.len() + 1]);
+        let tables = [(); 5].map(|_| vec![0; text.len() + 2]);
         Subject { what, text, tables, counts: [0; 5], reading: Sides::default(), lexing: Sides::default() }
     }
 

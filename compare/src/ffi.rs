@@ -14,7 +14,7 @@ mod c {
         ) -> u64;
         pub fn pcode_action(word: u64, out: *mut u64);
         pub fn pcode_operand(word: u64, out: *mut u64);
-        pub fn pcode_level(word: u64, out: *mut u64, height: *mut i64);
+        pub fn pcode_level(words: *const u64, out: *mut u64, height: *mut i64);
         pub fn pcode_label(word: u64, out: *mut u64);
         pub fn pcode_action_name(action: usize, name: *mut u8, name_len: usize) -> usize;
         pub fn pcode_line_column(text: *const u8, text_len: usize, at: usize, out: *mut u64);
@@ -101,11 +101,12 @@ pub fn action(word: u64) -> Action {
     Action { name, level, first, count }
 }
 
-/// The action and the token of an operand.
-pub fn operand(word: u64) -> (usize, usize) {
-    let mut out = [0u64; 2];
+/// The action and the token of an operand, and whether it is a string without its closing quote.
+pub fn operand(word: u64) -> (usize, usize, bool) {
+    let mut out = [0u64; 3];
     unsafe { c::pcode_operand(word, out.as_mut_ptr()) };
-    (out[0] as usize, out[1] as usize)
+    assert!(out[2] <= 1, "a flag of {}", out[2]);
+    (out[0] as usize, out[1] as usize, out[2] == 1)
 }
 
 pub struct Level {
@@ -114,13 +115,14 @@ pub struct Level {
     pub actions: usize,
     /// The height, or the first action whose delta is undetermined.
     pub net: Result<i64, i64>,
+    pub unclosed: usize,
 }
 
-pub fn level(word: u64) -> Level {
-    let (mut out, mut height) = ([0u64; 5], [0i64; 1]);
-    unsafe { c::pcode_level(word, out.as_mut_ptr(), height.as_mut_ptr()) };
+pub fn level(words: &[u64; 2]) -> Level {
+    let (mut out, mut height) = ([0u64; 6], [0i64; 1]);
+    unsafe { c::pcode_level(words.as_ptr(), out.as_mut_ptr(), height.as_mut_ptr()) };
     let net = if out[3] == 0 { Ok(height[0]) } else { Err(out[4] as i64) };
-    Level { block: out[0], owner: out[1] as usize, actions: out[2] as usize, net }
+    Level { block: out[0], owner: out[1] as usize, actions: out[2] as usize, net, unclosed: out[5] as usize }
 }
 
 /// The level, the token and the position of a label.

@@ -14,7 +14,7 @@ fn main() {
         return;
     };
     let text = &subjects[index.parse::<usize>().expect("a text's number")].1;
-    let mut tables = [(); 5].map(|_| vec![0u64; text.len() + 1]);
+    let mut tables = [(); 5].map(|_| vec![0u64; text.len() + 2]);
     let accepted = match call.as_str() {
         "read" => ffi::read(text, tables.each_mut().map(|t| &mut t[..]), &mut [0; 5]) == 0,
         "lex" => ffi::lex(text, &mut tables[0]).is_ok(),

@@ -1,4 +1,5 @@
-//! Our tables in the form of the oracle's dump, so that the two can be held together line by line.
+//! Our tables in the form of the oracle's dump, so that the two can be held together line by line. The Rust does not tell whether a
+//! string was closed: a token's and an operand's flag and a level's count are left out here, and held to the text itself in reading.rs.
 
 use std::fmt::Write;
 
@@ -11,7 +12,7 @@ pub struct Reading {
     pub tokens: Vec<u64>,
     pub actions: Vec<u64>,
     pub operands: Vec<u64>,
-    pub levels: Vec<u64>,
+    pub levels: Vec<[u64; 2]>,
     pub labels: Vec<u64>,
 }
 
@@ -48,7 +49,7 @@ impl Reading {
             to.push('\n');
         }
         let _ = writeln!(to, "OK actions {} labels {} levels {}", self.actions.len(), self.labels.len(), self.levels.len());
-        let levels: Vec<ffi::Level> = self.levels.iter().map(|w| ffi::level(*w)).collect();
+        let levels: Vec<ffi::Level> = self.levels.iter().map(ffi::level).collect();
         let mut caught = vec![false; self.actions.len()];
         for l in levels.iter().filter(|l| l.block == 3) {
             *caught.get_mut(l.owner).ok_or("a catch block of no action")? = true;

@@ -10,6 +10,7 @@ use crate::recogniser::Recogniser;
 use crate::{UNTOUCHED, ffi, hex};
 
 const NEWLINE: u32 = 0;
+const STRING: u32 = 1;
 const ACTION: u32 = 6;
 const IDENTIFIER: u32 = 7;
 const COLON: u32 = 8;
@@ -27,7 +28,15 @@ const TABLES_TRIED: (u64, u64) = (2_000, 16);
 /// The tables of a reading, or a refusal's number and place.
 type Answer = Result<Reading, (u64, u64)>;
 
-/// Reads with tables of these lengths, and checks that nothing but the entries and, on a refusal, nothing but the place
+/// The words of an entry, by table.
+const WORDS: [usize; 5] = [1, 1, 1, 2, 1];
+
+/// The words of tables with so many places.
+fn words_of(places: [usize; 5]) -> [usize; 5] {
+    std::array::from_fn(|i| places[i] * WORDS[i])
+}
+
+/// Reads with tables of so many words, and checks that nothing but the entries and, on a refusal, nothing but the place
 /// was written.
 fn read(text: &[u8], lengths: [usize; 5]) -> Result<Answer, String> {
     // a place more than is lent, to see a word that is written behind a table
@@ -43,19 +52,20 @@ fn read(text: &[u8], lengths: [usize; 5]) -> Result<Answer, String> {
         return Ok(Err((number, out[0])));
     }
     for (i, table) in tables.iter_mut().enumerate() {
-        let n = out[i] as usize;
+        let n = out[i] as usize * WORDS[i];
         if n > lengths[i] || !untouched(&table[n..]) {
-            return Err(format!("table {i} has {n} entries and was written behind them"));
+            return Err(format!("table {i} has {n} words and was written behind them"));
         }
         table.truncate(n);
     }
     let [tokens, actions, operands, levels, labels] = tables;
+    let levels = levels.chunks_exact(2).map(|w| [w[0], w[1]]).collect();
     Ok(Ok(Reading { tokens, actions, operands, levels, labels }))
 }
 
 /// No table can have more entries than the text has bytes, but for the top level.
 fn roomy(text: &[u8]) -> [usize; 5] {
-    [text.len() + 1; 5]
+    words_of([text.len() + 1; 5])
 }
 
 /// The first brace, of tokens that begin a grammatical list, that opens a block too many.
@@ -177,7 +187,8 @@ impl Report<'_> {
         }
         compare_operands(reading, told)?;
         compare_labels(text, reading, &told.tokens)?;
-        compare_nets(reading, told)
+        compare_nets(reading, told)?;
+        compare_unclosed(text, reading, &told.tokens)
     }
 
     /// A table that is exactly full holds the same, and one that is a place short is refused as document 01's
@@ -192,7 +203,7 @@ impl Report<'_> {
             Ok(r) => [tokens, r.actions.len(), r.operands.len(), r.levels.len(), r.labels.len()],
             Err(_) => [tokens, 0, 0, 0, 0],
         };
-        if read(text, exact)? != *ours {
+        if read(text, words_of(exact))? != *ours {
             return Err("tables that are exactly full differ".into());
         }
         // which tables are a place short, as bits: each alone, the tokens and the last, and all
@@ -204,7 +215,9 @@ impl Report<'_> {
                 Some(i) => Err((8, i as u64 - 1)),
                 None => continue,
             };
-            let answer = read(text, lengths)?;
+            // a level table of one word fewer is a place short: its last word alone is none
+            let words = std::array::from_fn(|i| lengths[i] * WORDS[i] + if lengths[i] < exact[i] { WORDS[i] - 1 } else { 0 });
+            let answer = read(text, words)?;
             if answer != expected {
                 return Err(format!("with tables of {lengths:?} places not {expected:?} but {:?}", answer.map(|_| "accepted")));
             }
@@ -265,7 +278,7 @@ fn compare_operands(reading: &Reading, told: &Told) -> Result<(), String> {
         let written: &[usize] = if dropped { &[] } else { written };
         let action = ffi::action(reading.actions[i]);
         let held = reading.operands[next..].iter().take(written.len()).map(|w| ffi::operand(*w));
-        if !held.eq(written.iter().map(|t| (i, *t))) || action.count != written.len() || (action.first != next && action.count > 0) {
+        if !held.map(|(action, token, _)| (action, token)).eq(written.iter().map(|t| (i, *t))) || action.count != written.len() || (action.first != next && action.count > 0) {
             return Err(format!("action {i} does not have the operands {written:?}"));
         }
         next += written.len();
@@ -324,8 +337,29 @@ fn compare_nets(reading: &Reading, told: &Told) -> Result<(), String> {
             (Ok(height), delta) => Ok(height + delta.parse::<i64>().map_err(|e| e.to_string())?),
         };
     }
-    match reading.levels.iter().zip(&nets).position(|(w, net)| ffi::level(*w).net != *net) {
+    match reading.levels.iter().zip(&nets).position(|(w, net)| ffi::level(w).net != *net) {
         Some(level) => Err(format!("the net of level {level} is not {:?}", nets[level])),
+        None => Ok(()),
+    }
+}
+
+/// What the Rust does not tell is held to the text: which strings lack their closing quote, in the token, in the operand and in the
+/// count of the level whose own action has it.
+fn compare_unclosed(text: &[u8], reading: &Reading, tokens: &[Token]) -> Result<(), String> {
+    let lacks = |t: &Token| t.place() == STRING && !places::string_end(text, t.start).1;
+    let carried = |w: &u64| ffi::token(*w).kind == 65_537;
+    if let Some(i) = reading.tokens.iter().zip(tokens).position(|(w, t)| carried(w) != lacks(t)) {
+        return Err(format!("token {i} says wrongly whether it was closed"));
+    }
+    let mut counts = vec![0; reading.levels.len()];
+    for (action, token, unclosed) in reading.operands.iter().map(|w| ffi::operand(*w)) {
+        if unclosed != lacks(&tokens[token]) {
+            return Err(format!("the operand at token {token} says wrongly whether it was closed"));
+        }
+        counts[ffi::action(reading.actions[action]).level] += unclosed as usize;
+    }
+    match reading.levels.iter().zip(&counts).position(|(w, n)| ffi::level(w).unclosed != *n) {
+        Some(level) => Err(format!("level {level} does not have {} unclosed strings", counts[level])),
         None => Ok(()),
     }
 }

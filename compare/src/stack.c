@@ -14,7 +14,7 @@
 
 #include "pcode.h"
 
-enum { LONGEST = PCODE_MOST_BYTES, PLACES = LONGEST + 1, STACK = 8 << 20, GUARD = 1 << 16 };
+enum { LONGEST = PCODE_MOST_BYTES, PLACES = LONGEST + 2, STACK = 8 << 20, GUARD = 1 << 16 };
 static const uint64_t PAINT = 0xA5C3965A3C69F00D;
 
 /* What the calls are given and write is not on the stack. */

@@ -373,7 +373,7 @@ pub fn one_action_each() -> Vec<(String, usize, usize, bool)> {
     all
 }
 
-/// The oracle's name of a kind.
+/// The oracle's name of a kind. What a string carries is no part of it: the Rust does not tell whether a string was closed.
 pub fn kind_name(kind: u64) -> String {
     let carried = kind % 65536;
     match kind / 65536 {

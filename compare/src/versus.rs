@@ -85,7 +85,7 @@ fn main() {
     println!("| text                      | bytes |  read |   new | round |   lex |   new | round |");
     println!("|---------------------------|------:|------:|------:|------:|------:|------:|------:|");
     for (what, text) in subjects::subjects() {
-        let mut tables = [(); 5].map(|_| vec![0u64; text.len() + 1]);
+        let mut tables = [(); 5].map(|_| vec![0u64; text.len() + 2]);
         let (mut read, mut lex) = (Vec::new(), Vec::new());
         for round in 0..ROUNDS {
             let both = |old: &mut dyn FnMut() -> f64, new: &mut dyn FnMut() -> f64| {
