@@ -1,0 +1,5 @@
+pub mod Each
+pub mod Trees
+pub mod Readings
+pub mod Answers
+pub mod Theorems

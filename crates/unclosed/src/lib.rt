@@ -1,0 +1,1 @@
+// No code: which strings are closed changes no answer.
