@@ -2,4 +2,5 @@ pub mod Each
 pub mod Trees
 pub mod Readings
 pub mod Answers
+pub mod Counted
 pub mod Theorems

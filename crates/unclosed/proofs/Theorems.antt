@@ -1,16 +1,19 @@
 -- THE THEOREMS on strings that say whether they were closed, each with the file that proves it. What they speak of is defined in
--- specs/Alike. They assume nothing.
+-- specs/: `Alike` and what is built of it in Alike, `flagged` in Counts. They assume nothing.
 use mathlib.Core.Path.{_≡_}
-use mathlib.Core.List.{List}
+use mathlib.Core.List.{List, map}
 use mathlib.Core.Logic.{_↔_}
 use Prim.Native.Nat.{ℕ}
+use lib.ListN.{getD}
 use Rattle.answers.specs.Answers.{Answer, accepted, refused}
 use Rattle.lexemes.specs.Lexemes.{Lexeme}
-use Rattle.grammar.specs.Reading.{Reading, Reads, Grammatical}
+use Rattle.grammar.specs.Reading.{Reading, Level, Reads, Grammatical}
 use Rattle.grammar.specs.Nets.{Net, Nets}
 use Rattle.grammar.specs.Refusals.{Outcome, entries, Refusal₈}
 use Rattle.unclosed.specs.Alike.{Each, Alike, ReadingAlike, AnswerAlike}
+use Rattle.unclosed.specs.Counts.{flagged}
 use Rattle.unclosed.proofs.Answers as Answers
+use Rattle.unclosed.proofs.Counted as Counted
 
 -- 'What is accepted is unchanged': let two lists of tokens differ only in which strings are closed, and in places as `At` says (`InPlace`,
 -- `Anywhere` or another way)
@@ -44,3 +47,7 @@ module _ {At : ℕ → ℕ → Type 0} {ts us : List Lexeme} (e : Each (Alike At
 -- readings that differ only so have as many entries in each table
 pub entries-alike : {At : ℕ → ℕ → Type 0} {R Q : Reading} → ReadingAlike At R Q → entries R ≡ entries Q
 entries-alike a = Answers.entries-alike a
+
+-- a level's count is the number of its operand entries with the flag; past the last level both are 0
+pub counted : {ts : List Lexeme} {R : Reading} → Reads ts R → (k : ℕ) → getD (map (λ (v : Level). v .unclosed) (R .levels)) k 0 ≡ flagged R k
+counted r k = Counted.counted r k
