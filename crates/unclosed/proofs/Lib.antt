@@ -3,4 +3,5 @@ pub mod Trees
 pub mod Readings
 pub mod Answers
 pub mod Counted
+pub mod Examples
 pub mod Theorems
