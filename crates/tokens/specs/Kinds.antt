@@ -1,5 +1,5 @@
 -- A token kind as a number, and back.
-use mathlib.Core.Bool.{Bool, false, cond, _&&_}
+use mathlib.Core.Bool.{Bool, false, not, cond, _&&_}
 use mathlib.Core.List.{List, [], _∷_}
 use Prim.Native.Nat.{ℕ, _+_, _*_, _/_, _%_}
 use lib.Dec.{eqb}
@@ -17,6 +17,7 @@ infix 60 _carrying_
 abbrev pub _carrying_ : ℕ → ℕ → Code
 p carrying n = record { place = p; carried = n }
 
+-- a string carries 1 where its closing quote is missing
 abbrev pub codeOf : TokenKind → Code
 codeOf K.Newline = 0 carrying 0
 codeOf (K.String c) = 1 carrying cond c 0 1
@@ -56,7 +57,7 @@ isUnclosed k = isKind k (K.String false) && eqb (codeOf k .carried) 1
 abbrev pub kinds : ℕ → List TokenKind
 kinds n =
     K.Newline
-    ∷ K.String (eqb n 0)
+    ∷ K.String (not (eqb n 1))
     ∷ K.Float
     ∷ K.Integer
     ∷ K.Register (n % 256)

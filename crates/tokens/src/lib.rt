@@ -100,7 +100,7 @@ pub fn kind_of(number: u64) -> TokenKind
     let carried = number % 65536;
     match place {
         0 => TokenKind::Newline,
-        1 => TokenKind::String(carried == 0),
+        1 => TokenKind::String(carried != 1),
         2 => TokenKind::Float,
         3 => TokenKind::Integer,
         4 => TokenKind::Register((carried % 256) as u8),
@@ -141,11 +141,7 @@ pub fn kind_place(word: u64) -> u64
 pub fn is_unclosed(word: u64) -> bool
     ensures { λ r. ⌜ r ≡ isUnclosed (tokenOf word .kind) ⌝ }
 {
-    let number = word / 1099511627776;
-    if number <= 65536 {
-        return false;
-    }
-    number < 131072
+    word / 1099511627776 == 65537
 }
 
 // The token of a table word.

@@ -65,14 +65,22 @@ fn give_operand(s: &[u64], token: usize, action: usize, at: usize, operands: &mu
     ensures { λ r. ⌜ now (operands .exit) ≡ set (now (operands .entry)) at (given (now (s .entry)) action token) ⌝ }
     ensures { λ r. ⌜ (r ≡ cond (unclosedAt (now (s .entry)) token) 1 0) × (r ≤ 1) ⌝ }
 {
-    let unclosed = is_unclosed_at(s, token);
+    if is_unclosed_at(s, token) {
+        let operand = Operand {
+            action,
+            token,
+            unclosed: true,
+        };
+        put_operand(operands, at, operand);
+        return 1;
+    }
     let operand = Operand {
         action,
         token,
-        unclosed,
+        unclosed: false,
     };
     put_operand(operands, at, operand);
-    if unclosed { 1 } else { 0 }
+    0
 }
 
 // The place behind an action's operands, and how many of them are unclosed strings.

@@ -2,7 +2,6 @@
 use borrow.Author.Needs.{needs}
 use mathlib.Core.Path.{ap, sym, _∙_}
 use mathlib.Core.Bool.{Bool, cond}
-use Prim.Native.Nat.{ℕ}
 use native.Mathlib.Omega.{arith}
 use denote.Ref.{now}
 use lib.ListN.{set}
@@ -13,17 +12,17 @@ use Rattle.writing.proofs.give_operand.Tie as tie
 returns : tie.Need-returns
 returns c =
     let a = c .before .before .before .before .before .before .before .before .args in
-    let e = c .before .before .before .before .before .is-unclosed-at .ensures in (
-      c .before .before .before .put-operand .ensures ∙ ap (λ (b : Bool). set (now (a .operands)) (a .at) (operandWord (record { action = a .action; token = a .token; unclosed = b }))) e,
-      (sym (ap (λ (b : Bool). cond b 1 0) (sym e ∙ c .if1 .taken)), omega arith),
+    let e = sym (c .before .before .before .before .if1 .taken) ∙ c .before .before .before .before .before .is-unclosed-at .ensures in (
+      c .before .before .put-operand .ensures ∙ ap (λ (b : Bool). set (now (a .operands)) (a .at) (operandWord (record { action = a .action; token = a .token; unclosed = b }))) e,
+      (ap (λ (b : Bool). cond b 1 0) e, omega arith),
     )
 
 returns-2 : tie.Need-returns-2
 returns-2 c =
     let a = c .before .before .before .before .before .before .before .before .args in
-    let e = c .before .before .before .before .before .is-unclosed-at .ensures in (
-      c .before .before .before .put-operand .ensures ∙ ap (λ (b : Bool). set (now (a .operands)) (a .at) (operandWord (record { action = a .action; token = a .token; unclosed = b }))) e,
-      (sym (ap (λ (b : Bool). cond b 1 0) (sym e ∙ c .if1 .left)), omega arith),
+    let e = sym (c .before .before .before .before .if1 .left) ∙ c .before .before .before .before .before .is-unclosed-at .ensures in (
+      c .before .before .put-operand2 .ensures ∙ ap (λ (b : Bool). set (now (a .operands)) (a .at) (operandWord (record { action = a .action; token = a .token; unclosed = b }))) e,
+      (ap (λ (b : Bool). cond b 1 0) e, omega arith),
     )
 
 pub give-operand-spec : {M : Type 1} → statement M
@@ -34,5 +33,6 @@ give-operand-spec =
     (λ c κs. search needs)
     (λ c. search needs)
     returns
+    (λ c κs. search needs)
     (λ c. search needs)
     returns-2)
