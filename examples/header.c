@@ -5,7 +5,7 @@
 
 #include "pcode.h"
 
-enum { PLACES = PCODE_MOST_BYTES + 1 };
+enum { PLACES = PCODE_MOST_BYTES + 2 }; /* words: the most that the table of levels takes */
 static char text[PLACES];
 static uint64_t tokens[PLACES], actions[PLACES], operands[PLACES], levels[PLACES], labels[PLACES], out[5];
 static int wrong = 0;
@@ -28,7 +28,7 @@ static const struct {
     {",", PCODE_KIND_COMMA, 0},             {"{", PCODE_KIND_OPEN_BRACE, 0},          {"}", PCODE_KIND_CLOSE_BRACE, 0},
     {"true", PCODE_KIND_TRUE, 0},           {"false", PCODE_KIND_FALSE, 0},           {"null", PCODE_KIND_NULL, 0},
     {"undefined", PCODE_KIND_UNDEFINED, 0}, {"catch", PCODE_KIND_CATCH, 0},           {"finally", PCODE_KIND_FINALLY, 0},
-    {"?", PCODE_KIND_UNKNOWN, 0},
+    {"?", PCODE_KIND_UNKNOWN, 0},           {"\"s", PCODE_KIND_STRING, 1},
 };
 
 static const struct {
@@ -110,13 +110,35 @@ static void check_levels(void)
 {
     static const char s[] = "CallFunction\nWith{}\nTry \"t\"{}\ncatch{}\nfinally{}\n";
     static const uint64_t blocks[] = {PCODE_BLOCK_TOP, PCODE_BLOCK_BODY, PCODE_BLOCK_TRY, PCODE_BLOCK_CATCH, PCODE_BLOCK_FINALLY};
-    uint64_t level[5];
+    uint64_t level[6];
     int64_t height[1];
-    same("five levels", read_into(s, strlen(s), PLACES, PLACES), 0);
+    same("five levels", read_into(s, strlen(s), PLACES, 5 * PCODE_LEVEL_WORDS), 0);
     for (size_t i = 0; i < 5; i++) {
-        pcode_level(levels[i], level, height);
+        pcode_level(levels + PCODE_LEVEL_WORDS * i, level, height);
         same("a level's block", level[0], blocks[i]);
         same("its net", level[3], i == 0 ? PCODE_NET_UNDETERMINED : PCODE_NET_HEIGHT);
+        same("its unclosed strings", level[5], 0);
+    }
+    same("a word too few", read_into(s, strlen(s), PLACES, 5 * PCODE_LEVEL_WORDS - 1), PCODE_REFUSED_TABLE_SHORT);
+    same("for the levels", out[0], 2);
+}
+
+/* Strings without their closing quote: two in the body, one in the top level. */
+static void check_unclosed(void)
+{
+    static const char s[] = "With{\nPush \"a\", \"b\nGotoLabel \"cd\n}\nPush 1, \"e\\\"\n";
+    static const uint64_t flags[] = {0, 1, 1, 0, 1}, counts[] = {1, 2};
+    uint64_t operand[3], level[6];
+    int64_t height[1];
+    same("unclosed strings", read_into(s, strlen(s), PLACES, PLACES), 0);
+    same("operands", out[2], 5);
+    for (size_t i = 0; i < 5; i++) {
+        pcode_operand(operands[i], operand);
+        same("an operand's flag", operand[2], flags[i]);
+    }
+    for (size_t i = 0; i < 2; i++) {
+        pcode_level(levels + PCODE_LEVEL_WORDS * i, level, height);
+        same("a level's unclosed strings", level[5], counts[i]);
     }
 }
 
@@ -136,6 +158,7 @@ int main(void)
     check_tokens();
     check_refusals();
     check_levels();
+    check_unclosed();
     check_names();
     return wrong;
 }

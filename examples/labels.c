@@ -66,22 +66,22 @@ static void print_refusal(const uint8_t *text, size_t length, uint64_t *tokens, 
     printf("\n");
 }
 
-/* Reads the text into tables that hold any reading of it, a place for each byte and one more: 5 and 8 are no answers then. */
+/* Reads the text into tables that hold any reading of it, a word for each byte and two more: 5 and 8 are no answers then. */
 static int list(const uint8_t *text, size_t length)
 {
-    size_t places = length + 1;
-    uint64_t *tables = malloc(5 * places * sizeof *tables);
+    size_t words = length + 2;
+    uint64_t *tables = malloc(5 * words * sizeof *tables);
     if (tables == NULL)
         return failed("no memory for the tables");
     uint64_t *tokens = tables;
-    uint64_t *actions = tokens + places;
-    uint64_t *operands = actions + places;
-    uint64_t *levels = operands + places;
-    uint64_t *labels = levels + places;
+    uint64_t *actions = tokens + words;
+    uint64_t *operands = actions + words;
+    uint64_t *levels = operands + words;
+    uint64_t *labels = levels + words;
 
     /* the counts of tokens, actions, operands, levels and labels; of a refusal, its place in out[0] */
     uint64_t out[5];
-    uint64_t refusal = pcode_read(text, length, tokens, places, actions, places, operands, places, levels, places, labels, places, out);
+    uint64_t refusal = pcode_read(text, length, tokens, words, actions, words, operands, words, levels, words, labels, words, out);
     if (refusal == 0)
         print_labels(text, tokens, labels, out[4]);
     else

@@ -52,9 +52,9 @@ mod pcode {
         pub labels: Vec<u64>,
     }
 
-    /// Lends tables that hold any reading of the text (a place for each byte, and one more) and cuts them to what was filled.
+    /// Lends tables that hold any reading of the text (a word for each byte, and two more) and cuts them to what was filled.
     pub fn read(text: &[u8]) -> Result<Reading, Refusal> {
-        let table = || vec![0u64; text.len() + 1];
+        let table = || vec![0u64; text.len() + 2];
         let mut r = Reading { tokens: table(), actions: table(), operands: table(), levels: table(), labels: table() };
         let mut out = [0u64; 5];
         // each pointer points to as many elements as the length beside it says, and no two of them overlap
@@ -69,8 +69,9 @@ mod pcode {
             return Err(Refusal { number, place: out[0] });
         }
         let tables = [&mut r.tokens, &mut r.actions, &mut r.operands, &mut r.levels, &mut r.labels];
-        for (table, count) in tables.into_iter().zip(out) {
-            table.truncate(count as usize);
+        // a level takes two words, any other entry one
+        for ((table, count), words) in tables.into_iter().zip(out).zip([1, 1, 1, 2, 1]) {
+            table.truncate(count as usize * words);
         }
         Ok(r)
     }

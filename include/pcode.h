@@ -1,6 +1,6 @@
 /* The p-code reader for C. Link libpcode_c.a (`rt staticlib pcode_c`) and the C library, nothing else.
  *
- *     size_t n = text_len + 1;     // tables with as many places hold any reading of the text
+ *     size_t n = text_len + 2;     // tables of as many words hold any reading of the text
  *     uint64_t out[5], label[3], token[5];
  *     uint64_t refusal = pcode_read(text, text_len, tokens, n, actions, n, operands, n, levels, n, labels, n, out);
  *     if (refusal != 0)
@@ -61,13 +61,14 @@ extern "C" {
 
 /* ---- constants */
 
-#define PCODE_VERSION "1.0"
-#define PCODE_VERSION_MAJOR 1
+#define PCODE_VERSION "2.0"
+#define PCODE_VERSION_MAJOR 2
 #define PCODE_VERSION_MINOR 0
 
 #define PCODE_MOST_BYTES 65536 /* of a text: a longer one is refused */
 #define PCODE_MOST_BLOCKS 64   /* that may be open at once */
 #define PCODE_MOST_NAME 15     /* bytes of an action's name */
+#define PCODE_LEVEL_WORDS 2    /* of a level in its table; each other entry has one word */
 
 /* Bytes of stack, measured for the worst texts that were found, and some ten percent more; compare/stack holds the calls to them. The
  * number behind a name is the length of text, in bytes, up to which it holds; without one it holds for any text. */
@@ -82,7 +83,7 @@ extern "C" {
 
 /* The kinds of tokens, and the parts of a kind's number (out[0] of pcode_token). */
 #define PCODE_KIND(number) ((number) / 65536)    /* one of PCODE_KIND_NEWLINE to PCODE_KIND_UNKNOWN */
-#define PCODE_CARRIED(number) ((number) % 65536) /* the register, the constant or the number of the action, else 0 */
+#define PCODE_CARRIED(number) ((number) % 65536) /* register, constant or number of the action; 1 of an unclosed string; else 0 */
 enum {
     PCODE_KIND_NEWLINE = 0,
     PCODE_KIND_STRING = 1,
@@ -146,7 +147,7 @@ enum {
     PCODE_NET_UNDETERMINED = 1
 };
 
-/* ---- a text into tables, a 64-bit word for each entry */
+/* ---- a text into tables, a 64-bit word for each entry, two for a level */
 
 /* Lexing alone: all tokens of a text at the front of the table; what stands behind them stays. out[0]: their number, at most text_len, so
  * that a table of text_len places is never too short. */
@@ -154,6 +155,7 @@ uint64_t pcode_lex(const uint8_t *text, size_t text_len, uint64_t *table, size_t
 
 /* Reading: the tokens, actions, operands, levels and labels of a text at the front of the lent tables; what stands behind them stays.
  * out[0] to out[4]: how many of each there are. Never too short are text_len places for tokens and text_len / 2 + 1 for each other table.
+ * Level k takes words 2 k and 2 k + 1 of its table, so that a level table has half as many places as words; a last word alone is none.
  *   tokens    in the order of the text, as pcode_lex gives them
  *   actions   as written, an outer action before its body
  *   operands  by action, then as written: its string, value, number, bool, register and label tokens outside its blocks, one each; a
@@ -164,29 +166,33 @@ uint64_t pcode_read(const uint8_t *text, size_t text_len, uint64_t *tokens, size
                     size_t actions_len, uint64_t *operands, size_t operands_len, uint64_t *levels, size_t levels_len,
                     uint64_t *labels, size_t labels_len, uint64_t out[5]);
 
-/* ---- the entry of a table's word. These refuse nothing: a word that no table held gives some entry, whose numbers may lie anywhere.
+/* ---- the entry of a table's word, a level's of its two. These refuse nothing: a word that no table held gives some entry, whose
+ * numbers may lie anywhere.
  * The ranges are those of a word that pcode_read wrote; `tokens`, `actions`, .. stand for its counts. */
 
 /* A token. out[0]: the number of its kind, 65,536 times the place in TokenKind (0 Newline, 1 String, 2 Float, 3 Integer, 4 Register,
  * 5 Constant, 6 ActionName, 7 Identifier, 8 Colon, 9 Comma, 10 OpenBrace, 11 CloseBrace, 12 True, 13 False, 14 Null, 15 Undefined,
  * 16 Catch, 17 Finally, 18 Unknown) plus what it carries: the register up to 255, the constant up to 65,535, the number of the action
- * up to 99, else 0; PCODE_KIND and PCODE_CARRIED take it apart. out[1], out[2]: start and end of its span, start < end <= text_len.
- * out[3], out[4]: start and end of its raw text, a string's without its quotes, any other's the span; start <= end <= text_len. An end is
- * the byte behind the last. */
+ * up to 99, 1 for a string without its closing quote, else 0; PCODE_KIND and PCODE_CARRIED take it apart, and to ask for a string by
+ * its number alone would miss the unclosed ones. out[1], out[2]: start and end of its span, start < end <= text_len.
+ * out[3], out[4]: start and end of its raw text, a string's without its quotes (an unclosed one's without its last byte instead), any
+ * other's the span; start <= end <= text_len. An end is the byte behind the last. */
 void pcode_token(uint64_t word, uint64_t out[5]);
 
 /* An action. out[0]: its number, 0 Add to 99 With in the order of ActionName (pcode_action_name). out[1]: its level, < levels. out[2]: its
  * first entry in the operand table. out[3]: how many operand entries it has, one after the other; out[2] + out[3] <= operands. */
 void pcode_action(uint64_t word, uint64_t out[4]);
 
-/* An operand. out[0]: its action, < actions. out[1]: its token, < tokens. */
-void pcode_operand(uint64_t word, uint64_t out[2]);
+/* An operand. out[0]: its action, < actions. out[1]: its token, < tokens. out[2]: 1 where it is a string without its closing quote, whose
+ * last byte is then lost, else 0. */
+void pcode_operand(uint64_t word, uint64_t out[3]);
 
-/* A level. out[0]: which block it is, 0 top, 1 body, 2 try, 3 catch, 4 finally. out[1]: the action whose block it is, < actions; 0 for the
- * top level. out[2]: how many actions it has, bodies not counted. out[3]: 0 where its net is a height, 1 where it is undetermined.
- * out[4]: its first action whose delta is undetermined, < actions, else 0. height[0]: the height, the sum of its own actions' deltas,
- * -196,608 to 65,536; 0 where the net is undetermined. */
-void pcode_level(uint64_t word, uint64_t out[5], int64_t height[1]);
+/* A level, of its two words: level k is pcode_level(levels + PCODE_LEVEL_WORDS * k, ..). out[0]: which block it is, 0 top, 1 body, 2 try,
+ * 3 catch, 4 finally. out[1]: the action whose block it is, < actions; 0 for the top level. out[2]: how many actions it has, bodies not
+ * counted. out[3]: 0 where its net is a height, 1 where it is undetermined. out[4]: its first action whose delta is undetermined,
+ * < actions, else 0. out[5]: how many unclosed strings there are among the operands of its own actions, bodies not counted. height[0]: the
+ * height, the sum of its own actions' deltas, -196,608 to 65,536; 0 where the net is undetermined. */
+void pcode_level(const uint64_t words[2], uint64_t out[6], int64_t height[1]);
 
 /* A label. out[0]: its level, < levels. out[1]: the token that first names it, < tokens. out[2]: the position it was given last: the number
  * of actions before it in its level, at most that level's action count. */

@@ -21,7 +21,7 @@ static const uint64_t PAINT = 0xA5C3965A3C69F00D;
 static uint8_t text[LONGEST];
 static size_t length;
 static uint64_t tokens[PLACES], actions[PLACES], operands[PLACES], levels[PLACES], labels[PLACES];
-static uint64_t answer, out[5];
+static uint64_t answer, out[6];
 static int32_t integer[1];
 static int64_t height[1];
 
@@ -178,8 +178,10 @@ static void call_operand(void)
 
 static void call_level(void)
 {
-    for (unsigned i = 0; i < 64; i++)
-        pcode_level(word(i), out, height);
+    for (unsigned i = 0; i < 64; i++) {
+        uint64_t words[PCODE_LEVEL_WORDS] = {word(i), word(i + 1)};
+        pcode_level(words, out, height);
+    }
 }
 
 static void call_label(void)
