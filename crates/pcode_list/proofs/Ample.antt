@@ -19,6 +19,7 @@ use Rattle.lexemes.specs.Lexemes.{numbered}
 use Rattle.grammar.specs.Reading as G
 use Rattle.grammar.specs.Refusals.{Outcome, row₆, row₇, reads, Short, Answers, rows₁₋₅, rows₆₋₇, row₈}
 use Rattle.grammar.proofs.Theorems.{ample}
+use Rattle.entries.specs.Entries.{levelPlaces}
 use Rattle.handover.specs.declared.Reading.{Reading}
 use Rattle.handover.specs.declared.Reading.the-variants as R
 use Rattle.handover.specs.Reading.{Tables, places, Reads, ReadsWords}
@@ -92,7 +93,7 @@ module _ (text : List ℕ) (room n : ℕ) (h : length text ≤ room) (g : length
 
 -- so reading never says that a table is too short
 pub never-short : (text : List ℕ) (x y : Tables ℕ) (r : Reading) (n : ℕ) → length text ≤ length (x .tokens) → length text + 1 ≤ n
-    → length (x .actions) ≡ n → length (x .operands) ≡ n → length (x .levels) ≡ n → length (x .labels) ≡ n → ReadsWords text x y r → NeverShort r
+    → length (x .actions) ≡ n → length (x .operands) ≡ n → levelPlaces (x .levels) ≡ n → length (x .labels) ≡ n → ReadsWords text x y r → NeverShort r
 unfolding Reads
 never-short text x y (R.Read c) n h g e₀ e₁ e₂ e₃ a = tt
 never-short text x y (R.Refused r) n h g e₀ e₁ e₂ e₃ a =

@@ -13,7 +13,7 @@ fn read_listed(
     tokens: &mut [u64; 4096],
     actions: &mut [u64; 4097],
     operands: &mut [u64; 4097],
-    levels: &mut [u64; 4097],
+    levels: &mut [u64; 8194],
     labels: &mut [u64; 4097],
 ) -> Reading
     ensures { λ r. ⌜ Listed (now (text .entry)) (lent (now (tokens .entry)) (now (actions .entry)) (now (operands .entry)) (now (levels .entry)) (now (labels .entry))) (lent (now (tokens .exit)) (now (actions .exit)) (now (operands .exit)) (now (levels .exit)) (now (labels .exit))) r ⌝ }
@@ -49,7 +49,7 @@ fn list(text: &[u8]) {
     let mut tokens = [0u64; 4096];
     let mut actions = [0u64; 4097];
     let mut operands = [0u64; 4097];
-    let mut levels = [0u64; 4097];
+    let mut levels = [0u64; 8194];
     let mut labels = [0u64; 4097];
     let r = read_listed(
         text,
