@@ -1,6 +1,6 @@
 -- Texts for the other bullets of the grammar, and document 01's other bench texts on grammar: a second such claim. Assumes nothing.
 use mathlib.Core.Path.{refl}
-use mathlib.Core.Bool.{true}
+use mathlib.Core.Bool.{true, false}
 use mathlib.Core.List.{List, [], _∷_, _++_}
 use mathlib.Core.Option.{none, some}
 use Prim.Native.Nat.{ℕ, zero, suc}
@@ -30,7 +30,7 @@ use Rattle.lexemes.specs.Events.{body, try, catch, finally}
 use Rattle.grammar.specs.Grammar.{Items, done, label, action, no-blocks, block}
 use Rattle.grammar.specs.Reading.{readingOf}
 use Rattle.grammar.specs.Nets.{undetermined, nets}
-use Rattle.grammar.proofs.Cases.{act, op, top, of, at, up, down, whole, letters, Case, reads, refuses, AllTold, no-more, _also_, read-told, six-told, seven-told}
+use Rattle.grammar.proofs.Cases.{act, op, top, of, lacking, at, up, down, whole, letters, Case, reads, refuses, AllTold, no-more, _also_, read-told, six-told, seven-told}
 
 -- n times With, a line feed only after each closing brace
 abbrev opened : ℕ → List ℕ
@@ -111,6 +111,12 @@ bullets =
     (op 0 3 (K.String true) (bytes "ok") (letters 2) ∷ op 0 5 K.Integer (bytes "3") (whole (pos 3)) ∷ op 3 17 K.Identifier (bytes "start") none ∷ [])
     (top 3 (up 1) ∷ of 1 body 1 (down 1) ∷ [])
     (at 0 0 (bytes "start") 0 ∷ at 1 12 (bytes "done") 1 ∷ [])
+    -- strings without their closing quote: each level counts its own
+    ∷ reads (bytes "Push \"ab\nWith {\nPush 1, \"c\\\"\n}\n")
+    (act A.Push 0 ∷ act A.With 0 ∷ act A.Push 1 ∷ [])
+    (op 0 1 (K.String false) (bytes "a") (letters 1) ∷ op 2 7 K.Integer (bytes "1") (whole (pos 1)) ∷ op 2 9 (K.String false) (bytes "c\\") (letters 2) ∷ [])
+    (lacking 1 (top 2 (up 0)) ∷ lacking 1 (of 1 body 1 (up 2)) ∷ [])
+    []
     ∷ reads (bytes "With {\nx: Add\n}\nx: Jump x\n")
     (act A.With 0 ∷ act A.Add 1 ∷ act A.Jump 0 ∷ [])
     (op 2 12 K.Identifier (bytes "x") none ∷ [])
@@ -163,6 +169,7 @@ bullets-told =
     also read-told (action A.Try [] (block try done (block finally done no-blocks)) done) refl refl refl refl refl
     also read-told (label (lexeme 0 K.Identifier (bytes "b")) (label (lexeme 2 K.Identifier (bytes "A")) (label (lexeme 4 K.Identifier (bytes "a")) (label (lexeme 6 K.Identifier (bytes "A")) done)))) refl refl refl refl refl
     also read-told (label (lexeme 0 K.Identifier (bytes "start")) (action A.Push (lexeme 3 (K.String true) (bytes "ok") ∷ lexeme 5 K.Integer (bytes "3") ∷ []) no-blocks (action A.With [] (block body (action A.Trace [] no-blocks (label (lexeme 12 K.Identifier (bytes "done")) done)) no-blocks) (action A.Jump (lexeme 17 K.Identifier (bytes "start") ∷ []) no-blocks done)))) refl refl refl refl refl
+    also read-told (action A.Push (lexeme 1 (K.String false) (bytes "a") ∷ []) no-blocks (action A.With [] (block body (action A.Push (lexeme 7 K.Integer (bytes "1") ∷ lexeme 9 (K.String false) (bytes "c\\") ∷ []) no-blocks done) no-blocks) done)) refl refl refl refl refl
     also read-told (action A.With [] (block body (label (lexeme 3 K.Identifier (bytes "x")) (action A.Add [] no-blocks done)) no-blocks) (label (lexeme 9 K.Identifier (bytes "x")) (action A.Jump (lexeme 12 K.Identifier (bytes "x") ∷ []) no-blocks done))) refl refl refl refl refl
     also read-told (action A.With [] (block body (action A.InitArray [] no-blocks done) no-blocks) (action A.SetMember [] no-blocks (action A.CallFunction [] no-blocks (action A.NewMethod [] no-blocks done)))) refl refl refl refl refl
     also read-told (nested 64) refl refl refl refl refl

@@ -1,6 +1,6 @@
 -- `give_operands`: the operands of an action, gathered from the events behind it. Assumes nothing.
 use mathlib.Core.Path.{_≡_, refl, sym, ap, _∙_}
-use mathlib.Core.Bool.{cond}
+use mathlib.Core.Bool.{Bool, true, false, cond}
 use mathlib.Core.List.{List, [], _∷_, map}
 use Prim.Native.Nat.{ℕ, zero, suc, _+_, _≤_, _<_}
 use native.Mathlib.Numerals.{add-one}
@@ -54,6 +54,17 @@ begins s log from a at old h =
       long = refl;
     }
 
+at-most : (b : Bool) → cond b 1 0 ≤ 1
+at-most true = omega arith
+at-most false = omega arith
+
+-- the count behind an operand: one more if it is unclosed
+pub one-more : (u v : ℕ) (b : Bool) → b ≡ true → v ≡ u + 1 → v ≡ u + cond b 1 0
+one-more u v b e h = h ∙ ap (λ (q : Bool). u + cond q 1 0) (sym e)
+
+pub no-more : (u v : ℕ) (b : Bool) → b ≡ false → v ≡ u → v ≡ u + cond b 1 0
+no-more u v b e h = h ∙ omega arith ∙ ap (λ (q : Bool). u + cond q 1 0) (sym e)
+
 -- none left
 finish : (s log : List ℕ) (from a at : ℕ) (old new : List ℕ) (d end u i : ℕ) → Giving s log from a at old new d end u i → gather d (drop i log) ≡ []
     → Gave s log from a at old new end u
@@ -101,9 +112,9 @@ module _ (s log : List ℕ) (from a at : ℕ) (old new : List ℕ) (d end u i : 
       by : (u : Event) → v ≡ u → gather d (drop i log) ≡ gatherBy u (gather 0 (drop (i + 1) log)) (gather 1 (drop (i + 1) log))
       by u e = (λ j. gather (none j) (next j)) ∙ ap (λ q. gatherBy q (gather 0 (drop (i + 1) log)) (gather 1 (drop (i + 1) log))) (sym is ∙ e)
 
-      pub gives : (t : ℕ) → v ≡ E.Operand t → (new′ : List ℕ) → new′ ≡ set new end (given s a t) → (k : ℕ) → k ≡ cond (unclosedAt s t) 1 0 → k ≤ 1
-          → Giving s log from a at old new′ d (end + 1) (u + k) (i + 1)
-      gives t f new′ e k ek kl =
+      pub gives : (t : ℕ) → v ≡ E.Operand t → (new′ : List ℕ) → new′ ≡ set new end (given s a t) → (b : Bool) → b ≡ unclosedAt s t → (v : ℕ) → v ≡ u + cond b 1 0
+          → Giving s log from a at old new′ d (end + 1) v (i + 1)
+      gives t f new′ e b eb v ev =
           let r : gather d (drop i log) ≡ t ∷ gather d (drop (i + 1) log) =
           by (E.Operand t) f ∙ ap (λ n. t ∷ gather n (drop (i + 1) log)) (sym none)
           in
@@ -112,11 +123,12 @@ module _ (s log : List ℕ) (from a at : ℕ) (old new : List ℕ) (d end u i : 
             inside = omega arith;
             since = omega (arith, g .since);
             shallow = omega arith;
-            above = omega (arith, g .above, kl);
+            above = omega (arith, g .above, ev, at-most b);
             few = omega (arith, g .few);
             told = g .told ∙ ap (λ l. sets new end (map (given s a) l)) r ∙ (λ j. sets (sym e j) (sym (add-one end) j) m);
             counted = g .counted ∙ ap (λ l. end + length l) r ∙ omega arith;
-            unclosed = g .unclosed ∙ ap (λ l. u + unclosedOf s l) r ∙ omega (arith, ek);
+            unclosed = g .unclosed ∙ ap (λ l. u + unclosedOf s l) r
+                ∙ ap (λ (q : Bool). u + (cond q 1 0 + unclosedOf s (gather d (drop (i + 1) log)))) (sym eb) ∙ omega (arith, ev);
             long = ap length e ∙ length-set new end (given s a t) ∙ g .long;
           }
 

@@ -18,7 +18,6 @@ use nets::first_is_empty;
 use nets::next_net;
 use tokens::is_unclosed;
 ghost use mathlib.Core.Path.{_≡_};
-ghost use mathlib.Core.Bool.{cond};
 ghost use Prim.Native.Nat.{_+_, _≤_, _<_};
 ghost use mathlib.Core.List.{map};
 ghost use lib.ListN.{length, drop, getD, set};
@@ -59,11 +58,11 @@ fn is_unclosed_at(s: &[u64], token: usize) -> bool
     false
 }
 
-// Writes an operand of an action; 1 if it is an unclosed string, else 0.
-fn give_operand(s: &[u64], token: usize, action: usize, at: usize, operands: &mut [u64]) -> usize
+// Writes an operand of an action; whether it is an unclosed string.
+fn give_operand(s: &[u64], token: usize, action: usize, at: usize, operands: &mut [u64]) -> bool
     requires { ⌜ Small action × Small token ⌝ }
     ensures { λ r. ⌜ now (operands .exit) ≡ set (now (operands .entry)) at (given (now (s .entry)) action token) ⌝ }
-    ensures { λ r. ⌜ (r ≡ cond (unclosedAt (now (s .entry)) token) 1 0) × (r ≤ 1) ⌝ }
+    ensures { λ r. ⌜ r ≡ unclosedAt (now (s .entry)) token ⌝ }
 {
     if is_unclosed_at(s, token) {
         let operand = Operand {
@@ -72,7 +71,7 @@ fn give_operand(s: &[u64], token: usize, action: usize, at: usize, operands: &mu
             unclosed: true,
         };
         put_operand(operands, at, operand);
-        return 1;
+        return true;
     }
     let operand = Operand {
         action,
@@ -80,7 +79,7 @@ fn give_operand(s: &[u64], token: usize, action: usize, at: usize, operands: &mu
         unclosed: false,
     };
     put_operand(operands, at, operand);
-    0
+    false
 }
 
 // The place behind an action's operands, and how many of them are unclosed strings.
@@ -118,7 +117,9 @@ fn give_operands(
         }
         match event {
             Event::Operand(token) => {
-                unclosed += give_operand(s, token as usize, action, end, operands);
+                if give_operand(s, token as usize, action, end, operands) {
+                    unclosed += 1;
+                }
                 end += 1;
                 continue;
             }

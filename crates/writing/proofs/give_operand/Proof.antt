@@ -1,8 +1,7 @@
 -- `writing::give_operand` meets its contract. Assumes nothing.
 use borrow.Author.Needs.{needs}
 use mathlib.Core.Path.{ap, sym, _∙_}
-use mathlib.Core.Bool.{Bool, cond}
-use native.Mathlib.Omega.{arith}
+use mathlib.Core.Bool.{Bool}
 use denote.Ref.{now}
 use lib.ListN.{set}
 use Rattle.entries.specs.Entries.{operandWord}
@@ -14,7 +13,7 @@ returns c =
     let a = c .before .before .before .before .before .before .before .before .args in
     let e = sym (c .before .before .before .before .if1 .taken) ∙ c .before .before .before .before .before .is-unclosed-at .ensures in (
       c .before .before .put-operand .ensures ∙ ap (λ (b : Bool). set (now (a .operands)) (a .at) (operandWord (record { action = a .action; token = a .token; unclosed = b }))) e,
-      (ap (λ (b : Bool). cond b 1 0) e, omega arith),
+      e,
     )
 
 returns-2 : tie.Need-returns-2
@@ -22,7 +21,7 @@ returns-2 c =
     let a = c .before .before .before .before .before .before .before .before .args in
     let e = sym (c .before .before .before .before .if1 .left) ∙ c .before .before .before .before .before .is-unclosed-at .ensures in (
       c .before .before .put-operand2 .ensures ∙ ap (λ (b : Bool). set (now (a .operands)) (a .at) (operandWord (record { action = a .action; token = a .token; unclosed = b }))) e,
-      (ap (λ (b : Bool). cond b 1 0) e, omega arith),
+      e,
     )
 
 pub give-operand-spec : {M : Type 1} → statement M

@@ -1,11 +1,12 @@
 -- `writing::give_operands` meets its contract. Assumes nothing.
 use borrow.Author.Needs.{needs}
 use mathlib.Core.Path.{refl, subst}
+use mathlib.Core.Logic.{⊎-elim}
 use Prim.Native.Nat.{_-_}
 use native.Mathlib.Omega.{arith}
 use lib.ListN.{length}
 use Rattle.events.specs.Log.{Holds}
-use Rattle.writing.proofs.Gather.{Giving, begins, passes, gives, tries, opens, stops, ends}
+use Rattle.writing.proofs.Gather.{Giving, begins, passes, one-more, no-more, gives, tries, opens, stops, ends}
 use Rattle.writing.proofs.give_operands.Statement.{statement}
 use Rattle.writing.proofs.give_operands.Tie as tie
 
@@ -33,15 +34,16 @@ give-operand-requires c κs =
 
 add-unclosed : tie.Need-add-unclosed Inv-loop μ-loop
 add-unclosed c =
-    omega (arith, c .before .before .before .before .before .before .before .before .before .before .before .loop .inv .above, c .before .before .before .before .before .before .before .before .before .before .before .loop .inv .few, c .before .before .before .before .before .before .before .before .before .before .before .loop .inv .inside, c .before .before .before .before .before .before .before .before .before .before .before .before .before .before .before .pre .0, c .before .before .before .before .before .before .before .before .before .before .before .before .before .before .before .pre .1 .1 .1, c .before .before .give-operand .ensures .1 .1)
+    omega (arith, c .before .before .before .before .before .before .before .before .before .before .before .before .loop .inv .above, c .before .before .before .before .before .before .before .before .before .before .before .before .loop .inv .few, c .before .before .before .before .before .before .before .before .before .before .before .before .loop .inv .inside, c .before .before .before .before .before .before .before .before .before .before .before .before .before .before .before .before .pre .0, c .before .before .before .before .before .before .before .before .before .before .before .before .before .before .before .before .pre .1 .1 .1)
 
 add-end : tie.Need-add-end Inv-loop μ-loop
 add-end c =
-    omega (arith, c .before .before .before .before .before .before .before .before .before .before .before .loop .inv .few, c .before .before .before .before .before .before .before .before .before .before .before .loop .inv .inside, c .before .before .before .before .before .before .before .before .before .before .before .before .before .before .before .pre .0, c .before .before .before .before .before .before .before .before .before .before .before .before .before .before .before .pre .1 .1 .1)
+    omega (arith, c .before .before .before .before .before .before .before .before .before .before .before .before .loop .inv .few, c .before .before .before .before .before .before .before .before .before .before .before .before .loop .inv .inside, c .before .before .before .before .before .before .before .before .before .before .before .before .before .before .before .before .pre .0, c .before .before .before .before .before .before .before .before .before .before .before .before .before .before .before .before .pre .1 .1 .1)
 
 loop-again-2 : tie.Need-loop-again-2 Inv-loop μ-loop
 loop-again-2 c =
-    gives _ _ _ _ _ _ _ _ _ _ _ (c .before .before .before .before .before .before .before .before .before .before .before .loop .inv) (c .before .before .before .before .before .before .before .before .before .before .loop-test .taken) _ (c .before .before .before .before .before .before .before .before .event-of .ensures .0) (c .before .before .before .before .before .before .before .if1 .left) _ (c .before .before .before .before .before .event .given .1) _ (c .before .before .give-operand .ensures .0) _ (c .before .before .give-operand .ensures .1 .0) (c .before .before .give-operand .ensures .1 .1)
+    gives _ _ _ _ _ _ _ _ _ _ _ (c .before .before .before .before .before .before .before .before .before .before .before .before .loop .inv) (c .before .before .before .before .before .before .before .before .before .before .before .loop-test .taken) _ (c .before .before .before .before .before .before .before .before .before .event-of .ensures .0) (c .before .before .before .before .before .before .before .before .if1 .left) _ (c .before .before .before .before .before .before .event .given .1) _ (c .before .before .before .give-operand .ensures .0) _ (c .before .before .before .give-operand .ensures .1) _
+    (⊎-elim (λ h. one-more _ _ _ (h .0 .taken) (h .1)) (λ h. no-more _ _ _ (h .0 .left) (h .1)) (c .if2 .came))
 
 same-length : tie.Need-same-length Inv-loop μ-loop
 same-length c =
@@ -49,11 +51,11 @@ same-length c =
 
 returns : tie.Need-returns Inv-loop μ-loop
 returns c =
-    opens _ _ _ _ _ _ _ _ _ _ _ (c .before .before .before .before .before .before .before .before .loop .inv) (c .before .before .before .before .before .before .before .loop-test .taken) _ (c .before .before .before .before .before .event-of .ensures .0) (c .before .before .before .before .if1 .left) _ (c .before .before .event2 .given .1) (c .if2 .taken)
+    opens _ _ _ _ _ _ _ _ _ _ _ (c .before .before .before .before .before .before .before .before .loop .inv) (c .before .before .before .before .before .before .before .loop-test .taken) _ (c .before .before .before .before .before .event-of .ensures .0) (c .before .before .before .before .if1 .left) _ (c .before .before .event2 .given .1) (c .if3 .taken)
 
 loop-again-3 : tie.Need-loop-again-3 Inv-loop μ-loop
 loop-again-3 c =
-    tries _ _ _ _ _ _ _ _ _ _ _ (c .before .before .before .before .before .before .before .before .loop .inv) (c .before .before .before .before .before .before .before .loop-test .taken) _ (c .before .before .before .before .before .event-of .ensures .0) (c .before .before .before .before .if1 .left) _ (c .before .before .event2 .given .1) (c .if2 .left)
+    tries _ _ _ _ _ _ _ _ _ _ _ (c .before .before .before .before .before .before .before .before .loop .inv) (c .before .before .before .before .before .before .before .loop-test .taken) _ (c .before .before .before .before .before .event-of .ensures .0) (c .before .before .before .before .if1 .left) _ (c .before .before .event2 .given .1) (c .if3 .left)
 
 same-length-2 : tie.Need-same-length-2 Inv-loop μ-loop
 same-length-2 c =
