@@ -9,9 +9,10 @@ use Rattle.lexemes.specs.Operands.{Class, string, value, bool, onlyTrue, onlyFa
 use Rattle.shapes.specs.declared.Shape.{Shape}
 use Rattle.shapes.specs.declared.Shape.the-variants as S
 use Rattle.grammar.specs.Grammar.{Takes, Body, push, constantPool, getUrl, getUrl2, gotoFrame, gotoFrame2, gotoFrame2Bias, gotoLabel, jumpTo, storeRegister, waitForFrame, defineFunction, defineFunction2, withBlock, tryPlain, tryTarget, others}
 use Rattle.wanted.specs.declared.Wanted.{Wanted}
 use Rattle.wanted.specs.declared.Wanted.the-variants as W
-use Rattle.wanted.specs.Wanted.{nth, pairs, wantedAt, Names, a-string, a-parameter, a-value, a-bool, a-true, a-false, a-flag, a-u8, a-register, a-u16, a-count, a-label, a-target, givenBy, Fixed}
+use Rattle.wanted.specs.Wanted.{nth, pairs, wantedAt}
+use Rattle.wanted_classes.specs.Classes.{Names, a-string, a-parameter, a-value, a-bool, a-true, a-false, a-flag, a-u8, a-register, a-u16, a-count, a-label, a-target, givenBy, Fixed}
 
 -- one by one
 abbrev Each : List Wanted → List Class → Type 0

@@ -1,0 +1,1 @@
+// No code: what `wanted` says of an operand is what the grammar takes there.
