@@ -266,7 +266,7 @@ static const struct small {
     size_t limit;
 } smalls[] = {
     {"pcode_token", call_token, 64},   {"pcode_action", call_action, 64}, {"pcode_operand", call_operand, 64},
-    {"pcode_level", call_level, 64},   {"pcode_label", call_label, 64},   {"pcode_raw_text", call_raw_text, 64},
+    {"pcode_level", call_level, 96},   {"pcode_label", call_label, 64},   {"pcode_raw_text", call_raw_text, 64},
     {"pcode_delta", call_delta, 540},  {"pcode_value", call_value, 600},  {"pcode_action_name", call_action_name, PCODE_OTHER_STACK},
     {"pcode_line_column", call_line_column, 64},
 };
