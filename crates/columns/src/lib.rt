@@ -101,12 +101,13 @@ fn hex_digit(n: u8) -> u8
     if n < 10 { 48 + n } else { 87 + n }
 }
 
-fn put_pair(out: &mut [u8; 4096], c: Cursor, b: u8) -> Cursor {
+// A byte as two hexadecimal digits.
+pub fn put_pair(out: &mut [u8; 4096], c: Cursor, b: u8) -> Cursor {
     let c = put_byte(out, c, hex_digit(b / 16));
     put_byte(out, c, hex_digit(b % 16))
 }
 
-// Two digits for each byte, a space before them.
+// Each byte with a space before it.
 pub fn put_bytes(out: &mut [u8; 4096], c: Cursor, bytes: &[u8]) -> Cursor {
     let mut c = c;
     let mut i = 0;

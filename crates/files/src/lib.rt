@@ -88,7 +88,8 @@ pub fn read_file(program: &[u8], name: &[u8], buf: &mut [u8]) -> Input
 
 // What became of a file.
 pub enum Outcome {
-    Read,
+    // with so many warnings
+    Read(u64),
     Refused,
     // it could not be read, which was told on standard error
     Failed,
@@ -112,19 +113,30 @@ pub fn one_if_failed(o: Outcome) -> u64
     }
 }
 
-// How many files were refused, and how many could not be read.
+pub fn warnings_of(o: Outcome) -> u64 {
+    match o {
+        Outcome::Read(n) => n,
+        _ => 0,
+    }
+}
+
+// How many files were refused, how many could not be read, and how many warnings there are of the others.
 pub struct Tally {
     pub refused: u64,
     pub failed: u64,
+    pub warnings: u64,
 }
 
-// 0: all files were read; 1: one was refused; 2: one could not be.
+// 0: all files were read; 1: one was refused; 2: one could not be read; 3: all were read, some with warnings.
 pub fn status_of(t: Tally) -> u64 {
     if 0 < t.failed {
         return 2;
     }
     if 0 < t.refused {
         return 1;
+    }
+    if 0 < t.warnings {
+        return 3;
     }
     0
 }

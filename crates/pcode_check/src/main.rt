@@ -1,5 +1,6 @@
-// Program `pcode-check FILE..`: of each file, that it is read, or where it is refused, what was expected there and the line with a mark.
-// The last line says how many were refused. The script pcode-check at the root has the options and makes the exit status.
+// Program `pcode-check FILE..`: of each file, that it is read, with a warning for each unclosed string; or where it is refused, what was
+// expected there and the line with a mark. The last line says how many were refused. The script pcode-check at the root has the options
+// and makes the exit status.
 use as2_pcode::Counts;
 use as2_pcode::Reading;
 use files::Input;
@@ -9,6 +10,7 @@ use libc::STDERR_FILENO;
 use printing::print_number;
 use printing::print_text;
 use reporting::print_name;
+use std::num::wrapping_add_u64;
 
 fn print_ok(name: &[u8], c: Counts) {
     print_name(name);
@@ -16,12 +18,12 @@ fn print_ok(name: &[u8], c: Counts) {
     reporting::print_counts(c.actions, c.operands, c.levels, c.labels);
 }
 
-// An entry of each table but the tokens' takes two bytes of text or more, the top level none.
+// An entry of each table but the tokens' takes two bytes of text or more, the top level none. That of a level has two words.
 fn check_text(name: &[u8], text: &[u8]) -> Outcome {
     let mut tokens = [0u64; 65536];
     let mut actions = [0u64; 32769];
     let mut operands = [0u64; 32769];
-    let mut levels = [0u64; 32769];
+    let mut levels = [0u64; 65538];
     let mut labels = [0u64; 32769];
     let reading = as2_pcode::read(
         text,
@@ -32,9 +34,9 @@ fn check_text(name: &[u8], text: &[u8]) -> Outcome {
         &mut labels,
     );
     match reading {
-        Reading::Read(counts) => {
-            print_ok(name, counts);
-            Outcome::Read
+        Reading::Read(c) => {
+            print_ok(name, c);
+            Outcome::Read(reporting::print_warnings(name, text, &tokens, &operands, c.operands))
         }
         Reading::Refused(r) => {
             reporting::print_refused(name, text, &mut tokens, r);
@@ -66,14 +68,21 @@ fn check_argument(i: usize) -> Outcome {
 fn check_arguments(count: usize) -> Tally {
     let mut refused: u64 = 0;
     let mut failed: u64 = 0;
+    let mut warnings: u64 = 0;
     let mut i = 1;
     while i < count {
         let outcome = check_argument(i);
         refused += files::one_if_refused(outcome);
         failed += files::one_if_failed(outcome);
+        // nothing prints so many that the sum wraps
+        warnings = wrapping_add_u64(warnings, files::warnings_of(outcome));
         i += 1;
     }
-    Tally { refused, failed }
+    Tally {
+        refused,
+        failed,
+        warnings,
+    }
 }
 
 fn print_tally(t: Tally, count: usize) {
@@ -85,6 +94,10 @@ fn print_tally(t: Tally, count: usize) {
         print_text(b", ");
         print_number(t.failed);
         print_text(b" could not be read");
+    }
+    if 0 < t.warnings {
+        print_text(b", ");
+        reporting::print_count(t.warnings, b"warning");
     }
     print_text(b"\n");
 }

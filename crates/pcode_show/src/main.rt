@@ -15,12 +15,12 @@ fn print_head(name: &[u8], c: Counts) {
     reporting::print_counts(c.actions, c.operands, c.levels, c.labels);
 }
 
-// An entry of each table but the tokens' takes two bytes of text or more, the top level none.
+// An entry of each table but the tokens' takes two bytes of text or more, the top level none. That of a level has two words.
 fn show_text(name: &[u8], text: &[u8]) -> Outcome {
     let mut tokens = [0u64; 65536];
     let mut actions = [0u64; 32769];
     let mut operands = [0u64; 32769];
-    let mut levels = [0u64; 32769];
+    let mut levels = [0u64; 65538];
     let mut labels = [0u64; 32769];
     let reading = as2_pcode::read(
         text,
@@ -34,7 +34,7 @@ fn show_text(name: &[u8], text: &[u8]) -> Outcome {
         Reading::Read(c) => {
             print_head(name, c);
             showing::print_shown(text, &tokens, &actions, &operands, &levels, &labels, c);
-            Outcome::Read
+            Outcome::Read(0)
         }
         Reading::Refused(r) => {
             reporting::print_refused(name, text, &mut tokens, r);
@@ -86,7 +86,11 @@ fn show_arguments(count: usize) -> Tally {
         failed += files::one_if_failed(outcome);
         i += 1;
     }
-    Tally { refused, failed }
+    Tally {
+        refused,
+        failed,
+        warnings: 0,
+    }
 }
 
 fn main() {

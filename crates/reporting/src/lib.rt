@@ -1,9 +1,14 @@
-// What a program says of a text: how much was read; or where it is refused, what that means, and the line with a mark under the place.
+// What a program says of a text: how much was read, and what it warns of; or where it is refused, what that means, and the line with a
+// mark under the place.
+mod warning;
+
 use answers::Refusal;
 use lexer::Lexing;
 use libc::STDOUT_FILENO;
 use printing::print_number;
 use printing::print_text;
+pub use warning::print_warnings;
+pub use warning::put_lost;
 
 pub fn print_name(name: &[u8]) {
     if files::is_standard_input(name) {
@@ -74,11 +79,11 @@ fn has_place(r: Refusal) -> bool {
     }
 }
 
-fn print_place(text: &[u8], at: usize) {
+fn print_place(line: usize, column: usize) {
     print_text(b":");
-    print_number(places::line_at(text, at) as u64);
+    print_number(line as u64);
     print_text(b":");
-    print_number(places::column_at(text, at) as u64);
+    print_number(column as u64);
 }
 
 // What of a text may be shown: where it is not UTF-8, the part before that.
@@ -96,7 +101,7 @@ fn print_report(name: &[u8], text: &[u8], tokens: &[u64], r: Refusal) {
     let placed = has_place(r);
     print_name(name);
     if placed {
-        print_place(text, at);
+        print_place(places::line_at(text, at), places::column_at(text, at));
     }
     print_text(b": refused ");
     print_number(answers::refusal_number(r));

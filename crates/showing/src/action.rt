@@ -68,9 +68,8 @@ fn put_operands(
     let mut i = 0;
     while i < own.len() {
         let operand = entries::operand_of(own[i]);
-        let token = entries::token_in(tokens, operand.token);
         i += 1;
-        c = put_operand(out, c, text, tokens, labels, a, i, token);
+        c = put_operand(out, c, text, tokens, labels, a, i, operand);
     }
     c
 }

@@ -15,8 +15,10 @@ use entries::Label;
 use entries::Level;
 use entries::Net;
 
-// Behind the count of a level's actions.
+// Behind the count of a level's actions, and behind its net.
 const NET: usize = 66;
+
+const UNCLOSED: usize = 80;
 
 fn put_block(out: &mut [u8; 4096], c: Cursor, actions: &[u64], what: &[u8], a: usize) -> Cursor {
     let c = put_text(out, c, what);
@@ -45,6 +47,15 @@ fn put_net(out: &mut [u8; 4096], c: Cursor, actions: &[u64], net: Net) -> Cursor
     }
 }
 
+fn put_unclosed(out: &mut [u8; 4096], c: Cursor, n: usize) -> Cursor {
+    if n == 0 {
+        return c;
+    }
+    let c = put_column(out, c, UNCLOSED);
+    let c = put_count(out, c, n, b"string");
+    put_text(out, c, b" not closed")
+}
+
 fn put_level(out: &mut [u8; 4096], c: Cursor, actions: &[u64], i: usize, l: Level) -> Cursor {
     let block = l.block;
     let net = l.net;
@@ -54,6 +65,7 @@ fn put_level(out: &mut [u8; 4096], c: Cursor, actions: &[u64], i: usize, l: Leve
     let c = put_count(out, c, l.actions, b"action");
     let c = put_column(out, c, NET);
     let c = put_net(out, c, actions, net);
+    let c = put_unclosed(out, c, l.unclosed);
     put_byte(out, c, b'\n')
 }
 

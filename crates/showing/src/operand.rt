@@ -12,6 +12,7 @@ use columns::put_integer;
 use columns::put_number;
 use columns::put_text;
 use entries::Action;
+use entries::Operand;
 use lookups::Target;
 use names::ActionName;
 use shapes::Shape;
@@ -103,6 +104,15 @@ fn put_meaning(
     put_target(out, c, t)
 }
 
+// What a string without its closing quote lost.
+fn put_mark(out: &mut [u8; 4096], c: Cursor, text: &[u8], token: Token, unclosed: bool) -> Cursor {
+    if !unclosed {
+        return c;
+    }
+    let c = put_text(out, c, b", not closed: ");
+    reporting::put_lost(out, c, text, token)
+}
+
 // The number of an operand is that within its action, from 1.
 pub fn put_operand(
     out: &mut [u8; 4096],
@@ -112,11 +122,13 @@ pub fn put_operand(
     labels: &[u64],
     a: Action,
     number: usize,
-    token: Token,
+    operand: Operand,
 ) -> Cursor {
+    let token = entries::token_in(tokens, operand.token);
     let c = put_head(out, c, b"operand ", number);
     let c = put_typed(out, c, text, token);
     let c = put_column(out, c, FACTS);
     let c = put_meaning(out, c, text, tokens, labels, a, token);
+    let c = put_mark(out, c, text, token, operand.unclosed);
     put_byte(out, c, b'\n')
 }

@@ -5,10 +5,10 @@ use Rattle.pcode_check.proofs.check_arguments.Statement.{statement}
 use Rattle.pcode_check.proofs.check_arguments.Tie as tie
 
 abbrev Inv-loop : tie.InvT-loop
-Inv-loop count refused₀ failed₀ i₀ refused failed i = (refused ≤ i) × (failed ≤ i)
+Inv-loop count refused₀ failed₀ warnings₀ i₀ refused failed warnings i = (refused ≤ i) × (failed ≤ i)
 
 abbrev μ-loop : tie.MeasureT-loop
-μ-loop count refused₀ failed₀ i₀ refused failed i = count - i
+μ-loop count refused₀ failed₀ warnings₀ i₀ refused failed warnings i = count - i
 
 pub check-arguments-spec : {M : Type 1} → statement M
 check-arguments-spec =
@@ -22,6 +22,8 @@ check-arguments-spec =
     (λ c. search needs)
     (λ c κs. search needs)
     (λ c. search needs)
+    (λ c κs. search needs)
+    (λ c κs. search needs)
     (λ c. search needs)
     (λ c. search needs)
     (λ c. search needs)
