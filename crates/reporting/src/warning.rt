@@ -39,10 +39,15 @@ fn put_letter(out: &mut [u8; 4096], c: Cursor, b: u8) -> Cursor {
     }
 }
 
-// What the string of an unclosed token lost. A reading has none that ends in a character over one byte.
+// What the string of an unclosed token lost. A reading has none that ends in a character over one byte. Where lines end with a carriage
+// return and a line feed, the string takes in the first of these, and no letter is lost.
 pub fn put_lost(out: &mut [u8; 4096], c: Cursor, text: &[u8], token: Token) -> Cursor {
+    let b = byte_at(text, lost_at(token));
+    if b == b'\r' {
+        return put_text(out, c, b"the carriage return at its end is lost, and no letter");
+    }
     let c = put_text(out, c, b"the last letter, ");
-    let c = put_letter(out, c, byte_at(text, lost_at(token)));
+    let c = put_letter(out, c, b);
     put_text(out, c, b", is lost")
 }
 
