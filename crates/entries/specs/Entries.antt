@@ -77,6 +77,7 @@ levelWord l = blockNumber (l .block) * 1099511627776 + l .actions * 1048576 + ne
 abbrev pub levelWords : Level → List ℕ
 levelWords l = levelWord l ∷ l .unclosed ∷ []
 
+-- level after level
 abbrev pub levelsWords : List Level → List ℕ
 levelsWords [] = []
 levelsWords (l ∷ ls) = levelWords l ++ levelsWords ls
