@@ -6,9 +6,8 @@ mod operand;
 mod place;
 mod typed;
 
-use as2_pcode::Counts;
-
-// For a reading that was accepted, and the tables that it filled.
+// For a reading that was accepted: the tables that it filled, those of tokens and labels cut to their entries, and how many levels and
+// actions there are.
 pub fn print_shown(
     text: &[u8],
     tokens: &[u64],
@@ -16,10 +15,9 @@ pub fn print_shown(
     operands: &[u64],
     levels: &[u64],
     labels: &[u64],
-    c: Counts,
+    level_count: usize,
+    action_count: usize,
 ) {
-    let tokens = lookups::words_from(tokens, 0, c.tokens);
-    let labels = lookups::words_from(labels, 0, c.labels);
     let mut out = [0u8; 4096];
     let at = columns::start();
     let at = level::put_levels(
@@ -30,7 +28,7 @@ pub fn print_shown(
         actions,
         levels,
         labels,
-        c.levels,
+        level_count,
     );
     let at = action::put_actions(
         &mut out,
@@ -40,7 +38,7 @@ pub fn print_shown(
         actions,
         operands,
         labels,
-        c.actions,
+        action_count,
     );
     columns::finish(&out, at);
 }
