@@ -48,7 +48,7 @@ struct Written {
     end: usize,
 }
 
-const WRITTEN: [Written; 9] = [
+const WRITTEN: [Written; 11] = [
     Written {
         kind: TokenKind::Newline,
         start: 0,
@@ -68,6 +68,16 @@ const WRITTEN: [Written; 9] = [
         kind: TokenKind::String(true),
         start: 0,
         end: 0,
+    },
+    Written {
+        kind: TokenKind::String(false),
+        start: 0,
+        end: 2,
+    },
+    Written {
+        kind: TokenKind::String(false),
+        start: 65534,
+        end: 65536,
     },
     Written {
         kind: TokenKind::Unknown,
@@ -97,7 +107,7 @@ const WRITTEN: [Written; 9] = [
 ];
 
 fn word_at(i: usize) -> u64 {
-    if 9 <= i {
+    if 11 <= i {
         return 18446744073709551615;
     }
     let w = WRITTEN[i];
@@ -298,19 +308,19 @@ fn print_row(i: usize) {
 // ---- all cases
 
 fn print_case(i: usize) {
-    if i < 10 {
+    if i < 12 {
         print_token(i);
         return;
     }
-    if i < 23 {
-        print_raw(i - 10);
+    if i < 25 {
+        print_raw(i - 12);
         return;
     }
-    if i < 37 {
-        print_delta(i - 23);
+    if i < 39 {
+        print_delta(i - 25);
         return;
     }
-    print_row(i - 37);
+    print_row(i - 39);
 }
 
 fn print_line(i: usize) {
@@ -320,7 +330,7 @@ fn print_line(i: usize) {
 
 fn print_lines() {
     let mut i = 0;
-    while i < 47 {
+    while i < 49 {
         print_line(i);
         i += 1;
     }
