@@ -5,6 +5,7 @@
 use lexer::Lexing;
 use printing::print_number;
 use printing::print_text;
+use tokens::TokenKind;
 ghost use Prim.Native.Nat.{_<_, _≤_};
 ghost use lib.ListN.{length};
 
@@ -28,6 +29,15 @@ fn number_at(list: &[u8], at: usize) -> u64 {
         + wide(list[at + 3]) * 16777216
 }
 
+// The number of a kind as the Rust has it, which does not say whether a string was closed: 'demand 2's equality leaves it
+// and the count out' (document 02, §1).
+fn rust_kind(kind: TokenKind) -> u64 {
+    match kind {
+        TokenKind::String(_) => 65536,
+        _ => tokens::kind_number(kind),
+    }
+}
+
 // Whether the token of a word is the one that the list has at an index.
 fn same_token(list: &[u8], at: usize, word: u64) -> bool {
     if list.len() < 20 {
@@ -40,7 +50,7 @@ fn same_token(list: &[u8], at: usize, word: u64) -> bool {
     let kind = token.kind;
     let span = token.span;
     let raw = token.raw;
-    if number_at(list, at) != tokens::kind_number(kind) {
+    if number_at(list, at) != rust_kind(kind) {
         return false;
     }
     if number_at(list, at + 4) != span.start as u64 {

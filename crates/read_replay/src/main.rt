@@ -15,6 +15,7 @@ use pcode::StackDelta;
 use printing::print_number;
 use printing::print_text;
 use tokens::Token;
+use tokens::TokenKind;
 use values::PushValue;
 use values::TokenValue;
 ghost use mathlib.Core.Path.{_≡_};
@@ -185,11 +186,20 @@ fn expect_signed(list: &[u8], c: Cursor, n: i64) -> Cursor {
 
 // ---- tokens: kind, what the kind carries, span, raw bounds
 
+// The number of a kind as the Rust has it, which does not say whether a string was closed: 'demand 2's equality leaves it
+// and the count out' (document 02, §1).
+fn rust_kind(kind: TokenKind) -> u64 {
+    match kind {
+        TokenKind::String(_) => 65536,
+        _ => tokens::kind_number(kind),
+    }
+}
+
 fn expect_token(list: &[u8], c: Cursor, token: Token) -> Cursor {
     let kind = token.kind;
     let span = token.span;
     let raw = token.raw;
-    let number = tokens::kind_number(kind);
+    let number = rust_kind(kind);
     let c = expect(list, c, number / 65536);
     let c = expect(list, c, number % 65536);
     let c = expect(list, c, span.start as u64);
@@ -510,12 +520,12 @@ fn read_and_hold(
     }
 }
 
-// No text of the list is longer than 1,000 bytes.
+// No text of the list is longer than 1,000 bytes. A level takes two words.
 fn hold(list: &[u8], c: Cursor, text: &[u8]) -> Answered {
     let mut words = [0u64; 1024];
     let mut acted = [0u64; 1024];
     let mut operands = [0u64; 1024];
-    let mut levels = [0u64; 1024];
+    let mut levels = [0u64; 2048];
     let mut labels = [0u64; 1024];
     read_and_hold(
         list,
