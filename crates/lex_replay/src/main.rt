@@ -1,11 +1,10 @@
 // Replays the answers that the Rust gave on a fixed list of texts (data/, made by `compare/run ORACLE sample`).
 // A record is numbers of four bytes, low byte first: the text's length; 0 where it has tokens, 2 where it is not UTF-8, 3
 // where the Rust panics; the count of tokens or of valid bytes; for each token its kind's number, span and raw bounds.
-// Then comes the text.
+// Then comes the text. Whether a string was closed is left out.
 use lexer::Lexing;
 use printing::print_number;
 use printing::print_text;
-use tokens::TokenKind;
 ghost use Prim.Native.Nat.{_<_, _≤_};
 ghost use lib.ListN.{length};
 
@@ -29,15 +28,6 @@ fn number_at(list: &[u8], at: usize) -> u64 {
         + wide(list[at + 3]) * 16777216
 }
 
-// The number of a kind as the Rust has it, which does not say whether a string was closed: 'demand 2's equality leaves it
-// and the count out' (document 02, §1).
-fn rust_kind(kind: TokenKind) -> u64 {
-    match kind {
-        TokenKind::String(_) => 65536,
-        _ => tokens::kind_number(kind),
-    }
-}
-
 // Whether the token of a word is the one that the list has at an index.
 fn same_token(list: &[u8], at: usize, word: u64) -> bool {
     if list.len() < 20 {
@@ -50,7 +40,7 @@ fn same_token(list: &[u8], at: usize, word: u64) -> bool {
     let kind = token.kind;
     let span = token.span;
     let raw = token.raw;
-    if number_at(list, at) != rust_kind(kind) {
+    if number_at(list, at) != records::rust_kind(kind) {
         return false;
     }
     if number_at(list, at + 4) != span.start as u64 {

@@ -1,4 +1,4 @@
--- `read_replay::signed` negates a number that is small enough. Assumes nothing.
+-- `records::signed` negates a number that is small enough. Assumes nothing.
 use borrow.Author.Needs.{needs}
 use mathlib.Core.Path.{_≡_, sym, ap, subst, _∙_}
 use Prim.Native.Nat.{ℕ, zero, suc, _+_, _/_, _≤_, _<_}
@@ -9,8 +9,8 @@ use mir.Syntax.{w64}
 use mir.Val.{SFits, toZ}
 use mir.ValLaws.{toZ-pos}
 use Rattle.laws.proofs.Integers.{zero-sub}
-use Rattle.read_replay.proofs.signed.Statement.{statement}
-use Rattle.read_replay.proofs.signed.Tie as tie
+use Rattle.records.proofs.signed.Statement.{statement}
+use Rattle.records.proofs.signed.Tie as tie
 
 small : (n : ℕ) → n ≤ 4294967297 → mag (negℤ (pos n)) < 4294967297
 small zero g = omega arith

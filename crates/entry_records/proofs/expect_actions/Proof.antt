@@ -1,8 +1,8 @@
--- `read_replay::expect_actions` ends: it counts up to n. Assumes nothing.
+-- `entry_records::expect_actions` ends: it counts up to n. Assumes nothing.
 use borrow.Author.Needs.{needs}
 use Prim.Native.Nat.{_≤_, _-_}
-use Rattle.read_replay.proofs.expect_actions.Statement.{statement}
-use Rattle.read_replay.proofs.expect_actions.Tie as tie
+use Rattle.entry_records.proofs.expect_actions.Statement.{statement}
+use Rattle.entry_records.proofs.expect_actions.Tie as tie
 
 abbrev Inv-loop : tie.InvT-loop
 Inv-loop list text words acted operands n c₀ i₀ c i = i ≤ n
