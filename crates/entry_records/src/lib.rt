@@ -135,7 +135,8 @@ fn count_closing(words: &[u64], operands: &[u64], n: usize, of: u64) -> u64 {
     good
 }
 
-// ---- levels: block, its action, action count, unclosed strings; net and last label are passed over
+// ---- levels: block, its action, action count, unclosed strings, and three numbers that are passed over until these requests
+// of document 02 are here: the net along the jumps (§7) in two, and the label written last (§6)
 
 fn block_number(block: Block) -> u64 {
     match block {
@@ -184,7 +185,7 @@ pub fn expect_label(list: &[u8], c: Cursor, label: Label) -> Cursor {
     expect(list, c, label.position as u64)
 }
 
-// and its name; how often it was written is passed over
+// And its name; how often it was written (§3) is passed over until then.
 fn expect_named(list: &[u8], c: Cursor, text: &[u8], words: &[u64], label: Label) -> Cursor {
     let c = expect_label(list, c, label);
     let token = entries::token_in(words, label.token);
