@@ -5,7 +5,6 @@ use as2_pcode::Reading;
 use files::Input;
 use files::Outcome;
 use files::Tally;
-use lookups::words_from;
 use printing::print_text;
 use reporting::print_name;
 
@@ -34,16 +33,7 @@ fn show_text(name: &[u8], text: &[u8]) -> Outcome {
     match reading {
         Reading::Read(c) => {
             print_head(name, c);
-            showing::print_shown(
-                text,
-                words_from(&tokens, 0, c.tokens),
-                &actions,
-                &operands,
-                &levels,
-                words_from(&labels, 0, c.labels),
-                c.levels,
-                c.actions,
-            );
+            showing::print_shown(text, &tokens, &actions, &operands, &levels, &labels, c);
             Outcome::Read(0)
         }
         Reading::Refused(r) => {

@@ -6,8 +6,9 @@ mod operand;
 mod place;
 mod typed;
 
-// For a reading that was accepted: the tables that it filled, those of tokens and labels cut to their entries, and how many levels and
-// actions there are.
+use as2_pcode::Counts;
+
+// For a reading that was accepted, and the tables that it filled.
 pub fn print_shown(
     text: &[u8],
     tokens: &[u64],
@@ -15,9 +16,10 @@ pub fn print_shown(
     operands: &[u64],
     levels: &[u64],
     labels: &[u64],
-    level_count: usize,
-    action_count: usize,
+    c: Counts,
 ) {
+    let tokens = lookups::words_from(tokens, 0, c.tokens);
+    let labels = lookups::words_from(labels, 0, c.labels);
     let mut out = [0u8; 4096];
     let at = columns::start();
     let at = level::put_levels(
@@ -28,7 +30,7 @@ pub fn print_shown(
         actions,
         levels,
         labels,
-        level_count,
+        c.levels,
     );
     let at = action::put_actions(
         &mut out,
@@ -38,7 +40,7 @@ pub fn print_shown(
         actions,
         operands,
         labels,
-        action_count,
+        c.actions,
     );
     columns::finish(&out, at);
 }
