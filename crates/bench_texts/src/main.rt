@@ -1,5 +1,6 @@
-// Document 01's bench texts, the starred ones too, its traps at the door and its rows on tables: a line for each, with
-// the text and what reading answers. Its `stdout` is typed from document 01.
+// Document 01's bench texts, the starred ones too, its traps at the door and its rows on tables, and strings without their
+// closing quote (document 02, §1): a line for each, with the text and what reading answers. Its `stdout` is typed from the
+// documents.
 use as2_pcode::Counts;
 use as2_pcode::Reading;
 use libc::STDOUT_FILENO;
@@ -128,12 +129,39 @@ fn print_operand(text: &[u8], token: Token) {
     }
 }
 
+fn print_flag(unclosed: bool) {
+    if unclosed {
+        print_text(b" unclosed");
+    }
+}
+
 fn print_operands(text: &[u8], words: &[u64], operands: &[u64], n: usize) {
     let mut i = 0;
     while i < n {
         print_text(b"; ");
         let operand = entries::operand_in(operands, i);
         print_operand(text, entries::token_in(words, operand.token));
+        print_flag(operand.unclosed);
+        i += 1;
+    }
+}
+
+// The unclosed strings of a level that has any.
+fn print_level(levels: &[u64], i: usize) {
+    let level = entries::level_in(levels, i);
+    if level.unclosed == 0 {
+        return;
+    }
+    print_text(b"; level ");
+    print_number(i as u64);
+    print_text(b" unclosed ");
+    print_number(level.unclosed as u64);
+}
+
+fn print_levels(levels: &[u64], n: usize) {
+    let mut i = 0;
+    while i < n {
+        print_level(levels, i);
         i += 1;
     }
 }
@@ -181,6 +209,7 @@ fn answer(
         Reading::Read(c) => {
             print_counts(c);
             print_operands(text, words, operands, c.operands);
+            print_levels(levels, c.levels);
             print_labels(text, words, labels, c.labels);
         }
         Reading::Refused(r) => print_refusal(r),
@@ -192,7 +221,7 @@ fn read_small(text: &[u8]) {
     let mut words = [0u64; 1024];
     let mut actions = [0u64; 1024];
     let mut operands = [0u64; 1024];
-    let mut levels = [0u64; 1024];
+    let mut levels = [0u64; 2048];
     let mut labels = [0u64; 1024];
     answer(
         text,
@@ -209,7 +238,7 @@ fn read_large(text: &[u8]) {
     let mut words = [0u64; 65536];
     let mut actions = [0u64; 16384];
     let mut operands = [0u64; 1024];
-    let mut levels = [0u64; 1024];
+    let mut levels = [0u64; 2048];
     let mut labels = [0u64; 1024];
     answer(
         text,
@@ -302,8 +331,8 @@ fn show_size(piece: &[u8]) {
 
 const MARK: u64 = 16045690984503098046;
 
-// How many places each table is lent with.
-struct Places {
+// How many words each table is lent with; a level takes two.
+struct Words {
     tokens: usize,
     actions: usize,
     operands: usize,
@@ -311,7 +340,7 @@ struct Places {
     labels: usize,
 }
 
-fn print_places(p: Places) {
+fn print_words(p: Words) {
     print_text(b"tables of ");
     print_number(p.tokens as u64);
     print_text(b" ");
@@ -322,7 +351,7 @@ fn print_places(p: Places) {
     print_number(p.levels as u64);
     print_text(b" ");
     print_number(p.labels as u64);
-    print_text(b" places, ");
+    print_text(b" words, ");
 }
 
 // Whether a table holds the mark from a place on.
@@ -337,7 +366,7 @@ fn is_marked(table: &[u64], from: usize) -> bool {
     true
 }
 
-// Whether every table holds the mark behind its entries.
+// Whether every table holds the mark behind its entries; a level takes two words.
 fn are_marked(
     c: Counts,
     words: &[u64],
@@ -355,7 +384,7 @@ fn are_marked(
     if !is_marked(operands, c.operands) {
         return false;
     }
-    if !is_marked(levels, c.levels) {
+    if !is_marked(levels, least(c.levels, 100) * 2) {
         return false;
     }
     is_marked(labels, c.labels)
@@ -394,7 +423,7 @@ fn print_kept(kept: bool) {
 // Reads with the front of each table, prints the answer, and says how many entries it has.
 fn read_fronts(
     text: &[u8],
-    p: Places,
+    p: Words,
     words: &mut [u64],
     actions: &mut [u64],
     operands: &mut [u64],
@@ -417,8 +446,8 @@ fn read_fronts(
 }
 
 // Lends tables of these lengths, parts of longer ones that are marked all over.
-fn show_tables(text: &[u8], p: Places) {
-    print_places(p);
+fn show_tables(text: &[u8], p: Words) {
+    print_words(p);
     print_head(text);
     let mut words = [MARK; 33];
     let mut actions = [MARK; 33];
@@ -437,7 +466,7 @@ fn show_tables(text: &[u8], p: Places) {
     print_kept(are_marked(n, &words, &actions, &operands, &levels, &labels));
 }
 
-fn show_places(
+fn show_words(
     text: &[u8],
     tokens: usize,
     actions: usize,
@@ -447,7 +476,7 @@ fn show_places(
 ) {
     show_tables(
         text,
-        Places {
+        Words {
             tokens,
             actions,
             operands,
@@ -507,35 +536,56 @@ fn rows() {
     show_nested(b"", 65, b" }");
 }
 
-// Rows 5 and 8: the example of `pcode-list` has 19 tokens, 4 actions, 3 operands, 2 levels and 2 labels.
+// Strings without their closing quote: at the end of a line, behind an escaped quote (and a closed one behind an escaped
+// backslash), the last of a pool, in a level and in the body there, in a body alone.
+fn unclosed() {
+    show(b"Push \"a\", \"b\n");
+    show(b"Push \"a\\\"\n");
+    show(b"Push \"a\\\\\"\n");
+    show(b"ConstantPool \"a\", \"b\", \"cd\nPush constant2\n");
+    show(b"Push \"ab\nWith {\nPush \"cd\n}\nPush \"e\"\n");
+    show(b"DefineFunction \"f\", 0 {\nPush 1, \"ab\nTrace\nGetUrl \"u\", \"vw\n}\nPush \"e\"\n");
+}
+
+// Rows 5 and 8: the example of `pcode-list` has 19 tokens, 4 actions, 3 operands, 2 levels of two words each, and 2 labels.
 fn example(tokens: usize, actions: usize, operands: usize, levels: usize, labels: usize) {
     let text = b"start: Push \"ok\", 3\nWith {\nTrace\ndone: }\nJump start\n";
-    show_places(text, tokens, actions, operands, levels, labels);
+    show_words(text, tokens, actions, operands, levels, labels);
 }
 
 fn tables() {
-    example(19, 4, 3, 2, 2);
+    example(19, 4, 3, 4, 2);
     example(32, 32, 32, 32, 32);
-    example(18, 4, 3, 2, 2);
-    example(19, 3, 3, 2, 2);
-    example(19, 4, 2, 2, 2);
-    example(19, 4, 3, 1, 2);
-    example(19, 4, 3, 2, 1);
-    example(18, 3, 2, 1, 1);
-    example(19, 3, 2, 1, 1);
-    example(19, 4, 2, 1, 1);
-    example(19, 4, 3, 1, 1);
+    example(18, 4, 3, 4, 2);
+    example(19, 3, 3, 4, 2);
+    example(19, 4, 2, 4, 2);
+    example(19, 4, 3, 3, 2);
+    example(19, 4, 3, 4, 1);
+    example(18, 3, 2, 3, 1);
+    example(19, 3, 2, 3, 1);
+    example(19, 4, 2, 3, 1);
+    example(19, 4, 3, 3, 1);
     example(0, 0, 0, 0, 0);
-    show_places(b"", 0, 0, 0, 1, 0);
-    show_places(b"", 0, 0, 0, 0, 0);
-    show_places(b"With { Add }", 4, 0, 0, 0, 0);
-    show_places(b"With { Add }", 3, 0, 0, 0, 0);
-    show_places(b"\"", 0, 0, 0, 0, 0);
+}
+
+// Of an odd number of words the last is no place of the level table, and stays as it was.
+fn other_tables() {
+    example(19, 4, 3, 5, 2);
+    example(19, 4, 3, 2, 2);
+    show_words(b"", 0, 0, 0, 2, 0);
+    show_words(b"", 0, 0, 0, 3, 0);
+    show_words(b"", 0, 0, 0, 1, 0);
+    show_words(b"", 0, 0, 0, 0, 0);
+    show_words(b"With { Add }", 4, 0, 0, 0, 0);
+    show_words(b"With { Add }", 3, 0, 0, 0, 0);
+    show_words(b"\"", 0, 0, 0, 0, 0);
 }
 
 fn main() {
     bench_texts();
     traps();
     rows();
+    unclosed();
     tables();
+    other_tables();
 }
