@@ -3,6 +3,8 @@
 // documents.
 use as2_pcode::Counts;
 use as2_pcode::Reading;
+use fronts::Lent;
+use fronts::least;
 use libc::STDOUT_FILENO;
 use numbers::Natural;
 use printing::print_bits;
@@ -13,7 +15,6 @@ use printing::print_text;
 use tokens::Token;
 use values::PushValue;
 use values::TokenValue;
-ghost use Prim.Native.Nat.{_≤_};
 
 // ---- the text of a line
 
@@ -58,6 +59,11 @@ fn print_head(text: &[u8]) {
 
 // ---- what reading answers
 
+fn print_named(what: &[u8], n: usize) {
+    print_text(what);
+    print_number(n as u64);
+}
+
 // The whole number that a double is, if it is one.
 fn whole(x: f64) -> Natural {
     if x > -1.0 {
@@ -87,18 +93,27 @@ fn print_double(x: f64) {
     }
 }
 
-fn print_case(v: PushValue) {
+// The cases that hold nothing.
+fn print_word(v: PushValue) {
     match v {
         PushValue::Null => print_text(b"null"),
         PushValue::Undefined => print_text(b"undefined"),
+        PushValue::True => print_text(b"true"),
+        PushValue::False => print_text(b"false"),
+        _ => {}
+    }
+}
+
+// The cases that hold something, which is printed behind it.
+fn print_case(v: PushValue) {
+    match v {
         PushValue::String(_) => print_text(b"string "),
         PushValue::Integer(_) => print_text(b"integer "),
         PushValue::Float(_) => print_text(b"double "),
-        PushValue::True => print_text(b"true"),
-        PushValue::False => print_text(b"false"),
         PushValue::Register(_) => print_text(b"register "),
         PushValue::Constant(_) => print_text(b"constant "),
         PushValue::Long(_) => print_text(b"long "),
+        _ => {}
     }
 }
 
@@ -119,6 +134,7 @@ fn print_operand(text: &[u8], token: Token) {
     let raw = tokens::raw_text(text, token);
     match values::value(text, token) {
         TokenValue::Is(v) => {
+            print_word(v);
             print_case(v);
             print_held(raw, v);
         }
@@ -152,10 +168,8 @@ fn print_level(levels: &[u64], i: usize) {
     if level.unclosed == 0 {
         return;
     }
-    print_text(b"; level ");
-    print_number(i as u64);
-    print_text(b" unclosed ");
-    print_number(level.unclosed as u64);
+    print_named(b"; level ", i);
+    print_named(b" unclosed ", level.unclosed);
 }
 
 fn print_levels(levels: &[u64], n: usize) {
@@ -169,12 +183,10 @@ fn print_levels(levels: &[u64], n: usize) {
 // As `pcode-list` prints it: level, name, position.
 fn print_label(text: &[u8], words: &[u64], labels: &[u64], i: usize) {
     let label = entries::label_in(labels, i);
-    print_text(b"; label ");
-    print_number(label.level as u64);
+    print_named(b"; label ", label.level);
     print_text(b" ");
     print_bytes(tokens::raw_text(text, entries::token_in(words, label.token)));
-    print_text(b" ");
-    print_number(label.position as u64);
+    print_named(b" ", label.position);
 }
 
 fn print_labels(text: &[u8], words: &[u64], labels: &[u64], n: usize) {
@@ -186,34 +198,46 @@ fn print_labels(text: &[u8], words: &[u64], labels: &[u64], n: usize) {
 }
 
 fn print_counts(c: Counts) {
-    print_text(b"levels ");
-    print_number(c.levels as u64);
-    print_text(b" actions ");
-    print_number(c.actions as u64);
-    print_text(b" operands ");
-    print_number(c.operands as u64);
-    print_text(b" labels ");
-    print_number(c.labels as u64);
+    print_named(b"levels ", c.levels);
+    print_named(b" actions ", c.actions);
+    print_named(b" operands ", c.operands);
+    print_named(b" labels ", c.labels);
 }
 
-// Reads with the tables that are lent, and ends the line.
-fn answer(
-    text: &[u8],
-    words: &mut [u64],
-    actions: &mut [u64],
-    operands: &mut [u64],
-    levels: &mut [u64],
-    labels: &mut [u64],
-) {
-    match as2_pcode::read(text, words, actions, operands, levels, labels) {
+const NO_ENTRIES: Counts = Counts {
+    tokens: 0,
+    actions: 0,
+    operands: 0,
+    levels: 0,
+    labels: 0,
+};
+
+// Prints a refusal, or the counts of a reading, and says how many entries each table has.
+fn entries_of(reading: Reading) -> Counts {
+    match reading {
         Reading::Read(c) => {
             print_counts(c);
-            print_operands(text, words, operands, c.operands);
-            print_levels(levels, c.levels);
-            print_labels(text, words, labels, c.labels);
+            c
         }
-        Reading::Refused(r) => print_refusal(r),
+        Reading::Refused(r) => {
+            print_refusal(r);
+            NO_ENTRIES
+        }
     }
+}
+
+fn answer(
+    text: &[u8],
+    words: &[u64; 1024],
+    operands: &[u64; 1024],
+    levels: &[u64; 2048],
+    labels: &[u64; 1024],
+    reading: Reading,
+) {
+    let c = entries_of(reading);
+    print_operands(text, words, operands, c.operands);
+    print_levels(levels, c.levels);
+    print_labels(text, words, labels, c.labels);
     print_text(b"\n");
 }
 
@@ -223,7 +247,7 @@ fn read_small(text: &[u8]) {
     let mut operands = [0u64; 1024];
     let mut levels = [0u64; 2048];
     let mut labels = [0u64; 1024];
-    answer(
+    let reading = fronts::read_whole(
         text,
         &mut words,
         &mut actions,
@@ -231,23 +255,25 @@ fn read_small(text: &[u8]) {
         &mut levels,
         &mut labels,
     );
+    answer(text, &words, &operands, &levels, &labels, reading);
 }
 
-// A token for each byte, and an action for each four.
+// A token for each byte, and an action for each four; of these texts none has operands or labels.
 fn read_large(text: &[u8]) {
     let mut words = [0u64; 65536];
     let mut actions = [0u64; 16384];
     let mut operands = [0u64; 1024];
     let mut levels = [0u64; 2048];
     let mut labels = [0u64; 1024];
-    answer(
+    entries_of(fronts::read_whole(
         text,
         &mut words,
         &mut actions,
         &mut operands,
         &mut levels,
         &mut labels,
-    );
+    ));
+    print_text(b"\n");
 }
 
 fn show(text: &[u8]) {
@@ -282,22 +308,13 @@ fn fill(text: &mut [u8], from: usize, to: usize, piece: &[u8]) {
     }
 }
 
-fn least(n: usize, limit: usize) -> usize
-    ensures { λ r. ⌜ r ≤ limit ⌝ }
-{
-    if limit < n {
-        return limit;
-    }
-    n
-}
-
 fn front(text: &[u8], n: usize) -> &[u8] {
     let end = least(n, text.len());
     &text[..end]
 }
 
 // That many With inside one another, with a line feed only after each closing brace, between two short texts.
-fn show_nested(before: &[u8], blocks: usize, behind: &[u8]) {
+fn read_nested(before: &[u8], blocks: usize, behind: &[u8]) {
     let start = least(before.len(), 100);
     let more = least(behind.len(), 100);
     let opened = start + least(blocks, 100) * 6;
@@ -307,12 +324,16 @@ fn show_nested(before: &[u8], blocks: usize, behind: &[u8]) {
     fill(&mut text, start, opened, b"With {");
     fill(&mut text, opened, closed, b"}\n");
     fill(&mut text, closed, closed + more, behind);
+    read_small(front(&text, closed + more));
+}
+
+fn show_nested(before: &[u8], blocks: usize, behind: &[u8]) {
     print_bytes(before);
     print_number(blocks as u64);
     print_text(b" nested With");
     print_bytes(behind);
     print_text(b": ");
-    read_small(front(&text, closed + more));
+    read_nested(before, blocks, behind);
 }
 
 // A piece again and again in a text of the largest size, and of a byte more.
@@ -331,26 +352,12 @@ fn show_size(piece: &[u8]) {
 
 const MARK: u64 = 16045690984503098046;
 
-// How many words each table is lent with; a level takes two.
-struct Words {
-    tokens: usize,
-    actions: usize,
-    operands: usize,
-    levels: usize,
-    labels: usize,
-}
-
-fn print_words(p: Words) {
-    print_text(b"tables of ");
-    print_number(p.tokens as u64);
-    print_text(b" ");
-    print_number(p.actions as u64);
-    print_text(b" ");
-    print_number(p.operands as u64);
-    print_text(b" ");
-    print_number(p.levels as u64);
-    print_text(b" ");
-    print_number(p.labels as u64);
+fn print_lent(p: Lent) {
+    print_named(b"tables of ", p.tokens);
+    print_named(b" ", p.actions);
+    print_named(b" ", p.operands);
+    print_named(b" ", p.levels);
+    print_named(b" ", p.labels);
     print_text(b" words, ");
 }
 
@@ -390,28 +397,6 @@ fn are_marked(
     is_marked(labels, c.labels)
 }
 
-const NO_ENTRIES: Counts = Counts {
-    tokens: 0,
-    actions: 0,
-    operands: 0,
-    levels: 0,
-    labels: 0,
-};
-
-// Prints the answer, and how many entries of each table it may have changed.
-fn entries_of(reading: Reading) -> Counts {
-    match reading {
-        Reading::Read(c) => {
-            print_counts(c);
-            c
-        }
-        Reading::Refused(r) => {
-            print_refusal(r);
-            NO_ENTRIES
-        }
-    }
-}
-
 fn print_kept(kept: bool) {
     if kept {
         print_text(b"; no other place changed\n");
@@ -420,41 +405,16 @@ fn print_kept(kept: bool) {
     print_text(b"; MORE CHANGED\n");
 }
 
-// Reads with the front of each table, prints the answer, and says how many entries it has.
-fn read_fronts(
-    text: &[u8],
-    p: Words,
-    words: &mut [u64],
-    actions: &mut [u64],
-    operands: &mut [u64],
-    levels: &mut [u64],
-    labels: &mut [u64],
-) -> Counts {
-    let a = least(p.tokens, words.len());
-    let b = least(p.actions, actions.len());
-    let c = least(p.operands, operands.len());
-    let d = least(p.levels, levels.len());
-    let e = least(p.labels, labels.len());
-    entries_of(as2_pcode::read(
-        text,
-        &mut words[..a],
-        &mut actions[..b],
-        &mut operands[..c],
-        &mut levels[..d],
-        &mut labels[..e],
-    ))
-}
-
-// Lends tables of these lengths, parts of longer ones that are marked all over.
-fn show_tables(text: &[u8], p: Words) {
-    print_words(p);
+// Lends tables of so many words, parts of longer ones that are marked all over.
+fn show_tables(text: &[u8], p: Lent) {
+    print_lent(p);
     print_head(text);
     let mut words = [MARK; 33];
     let mut actions = [MARK; 33];
     let mut operands = [MARK; 33];
     let mut levels = [MARK; 33];
     let mut labels = [MARK; 33];
-    let n = read_fronts(
+    let n = entries_of(fronts::read_fronts(
         text,
         p,
         &mut words,
@@ -462,7 +422,7 @@ fn show_tables(text: &[u8], p: Words) {
         &mut operands,
         &mut levels,
         &mut labels,
-    );
+    ));
     print_kept(are_marked(n, &words, &actions, &operands, &levels, &labels));
 }
 
@@ -476,7 +436,7 @@ fn show_words(
 ) {
     show_tables(
         text,
-        Words {
+        Lent {
             tokens,
             actions,
             operands,
@@ -488,7 +448,7 @@ fn show_words(
 
 // ---- the texts
 
-fn bench_texts() {
+fn values() {
     show(b"");
     show(b"Push 1e5");
     show(b"Push 1e5\n");
@@ -498,16 +458,25 @@ fn bench_texts() {
     show(b"Push constant65535");
     show(b"Push register256");
     show(b"Push register255");
+}
+
+fn strings() {
     show(b"\"");
     show(b"GotoLabel \"ab");
     show(b"GotoLabel \"\xc3\xa9");
     show(b"DefineFunction \"f\", -3 {}");
+}
+
+fn blocks() {
     show(b"With { Add }");
     show(b"With { a: }");
     show(b"a: Add\na: Pop");
     show(b"StoreRegister 255");
     show(b"StoreRegister 256");
     show(b"StoreRegister -0");
+}
+
+fn limits() {
     show_nested(b"", 64, b"");
     show_nested(b"", 65, b"");
     show_size(b"Add\n");
@@ -582,7 +551,10 @@ fn other_tables() {
 }
 
 fn main() {
-    bench_texts();
+    values();
+    strings();
+    blocks();
+    limits();
     traps();
     rows();
     unclosed();
