@@ -44,7 +44,11 @@ fn put_letter(out: &mut [u8; 4096], c: Cursor, b: u8) -> Cursor {
 pub fn put_lost(out: &mut [u8; 4096], c: Cursor, text: &[u8], token: Token) -> Cursor {
     let b = byte_at(text, lost_at(token));
     if b == b'\r' {
-        return put_text(out, c, b"the carriage return at its end is lost, and no letter");
+        return put_text(
+            out,
+            c,
+            b"the carriage return at its end is lost, and no letter",
+        );
     }
     let c = put_text(out, c, b"the last letter, ");
     let c = put_letter(out, c, b);
