@@ -1,4 +1,4 @@
-// Refusals: document 01's table under 'The call', a case for each row.
+// Refusals: document 01's table under 'The call', a case for each row, and document 02's answers 10 to 25.
 ghost use mathlib.Core.Path.{_≡_};
 ghost use Rattle.answers.specs.Answers.{numberOf, placeOf};
 
@@ -24,6 +24,38 @@ pub enum Refusal {
     TableShort(usize),
     // 9: one of the seven undetermined actions
     Undetermined,
+    // 10: the action of a jump whose label is not in its level
+    NoLabel(usize),
+    // 11: the action with an operand that cannot be coded
+    Uncodable(usize),
+    // 12: the length needed
+    OutputShort(usize),
+    // 13: the first byte of a record that is none, or 0 for over 1,048,576 bytes
+    BadRecord(usize),
+    // 14: the first byte of a jump to no action of its level, nor to the level's end
+    BadTarget(usize),
+    // 15: the first byte of a record with a string that is not UTF-8, or a double that is not printed
+    Unprintable(usize),
+    // 16: two paths reach one position at different heights; it stands in a net and names no action
+    TwoHeights,
+    // 17: the number of an end that is below the one before it, or past the bytes
+    BadEnd(usize),
+    // 18: over 32 ends
+    TooManyEnds,
+    // 19: the action that SWF 4 does not have
+    NewerAction(usize),
+    // 20: the action that pushes a value SWF 4 does not have
+    NewerValue(usize),
+    // 21: the action with a constant and no ConstantPool before it in its level
+    NoPool(usize),
+    // 22: the action with a constant past the end of its pool
+    PastPool(usize),
+    // 23: a pack's count, trailer, directory, name or order, or the ends of its texts
+    BadPack,
+    // 24: a name that is not there
+    NotInPack,
+    // 25: the number of a text that is refused, in the directory
+    BadText(usize),
 }
 
 pub fn refusal_number(r: Refusal) -> u64
@@ -40,6 +72,22 @@ pub fn refusal_number(r: Refusal) -> u64
         Refusal::TooDeep(_) => 7,
         Refusal::TableShort(_) => 8,
         Refusal::Undetermined => 9,
+        Refusal::NoLabel(_) => 10,
+        Refusal::Uncodable(_) => 11,
+        Refusal::OutputShort(_) => 12,
+        Refusal::BadRecord(_) => 13,
+        Refusal::BadTarget(_) => 14,
+        Refusal::Unprintable(_) => 15,
+        Refusal::TwoHeights => 16,
+        Refusal::BadEnd(_) => 17,
+        Refusal::TooManyEnds => 18,
+        Refusal::NewerAction(_) => 19,
+        Refusal::NewerValue(_) => 20,
+        Refusal::NoPool(_) => 21,
+        Refusal::PastPool(_) => 22,
+        Refusal::BadPack => 23,
+        Refusal::NotInPack => 24,
+        Refusal::BadText(_) => 25,
     }
 }
 
@@ -57,5 +105,21 @@ pub fn refusal_place(r: Refusal) -> usize
         Refusal::TooDeep(p) => p,
         Refusal::TableShort(p) => p,
         Refusal::Undetermined => 0,
+        Refusal::NoLabel(p) => p,
+        Refusal::Uncodable(p) => p,
+        Refusal::OutputShort(p) => p,
+        Refusal::BadRecord(p) => p,
+        Refusal::BadTarget(p) => p,
+        Refusal::Unprintable(p) => p,
+        Refusal::TwoHeights => 0,
+        Refusal::BadEnd(p) => p,
+        Refusal::TooManyEnds => 0,
+        Refusal::NewerAction(p) => p,
+        Refusal::NewerValue(p) => p,
+        Refusal::NoPool(p) => p,
+        Refusal::PastPool(p) => p,
+        Refusal::BadPack => 0,
+        Refusal::NotInPack => 0,
+        Refusal::BadText(p) => p,
     }
 }

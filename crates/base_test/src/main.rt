@@ -284,7 +284,7 @@ fn print_delta(i: usize) {
 
 // ---- refusals
 
-const REFUSALS: [Refusal; 10] = [
+const REFUSALS: [Refusal; 26] = [
     Refusal::TooLong,
     Refusal::NotUtf8(11),
     Refusal::LoneQuote(12),
@@ -295,10 +295,26 @@ const REFUSALS: [Refusal; 10] = [
     Refusal::TooDeep(16),
     Refusal::TableShort(3),
     Refusal::Undetermined,
+    Refusal::NoLabel(110),
+    Refusal::Uncodable(111),
+    Refusal::OutputShort(112),
+    Refusal::BadRecord(113),
+    Refusal::BadTarget(114),
+    Refusal::Unprintable(115),
+    Refusal::TwoHeights,
+    Refusal::BadEnd(117),
+    Refusal::TooManyEnds,
+    Refusal::NewerAction(119),
+    Refusal::NewerValue(120),
+    Refusal::NoPool(121),
+    Refusal::PastPool(122),
+    Refusal::BadPack,
+    Refusal::NotInPack,
+    Refusal::BadText(125),
 ];
 
 fn print_row(i: usize) {
-    if 10 <= i {
+    if 26 <= i {
         return;
     }
     let r = REFUSALS[i];
@@ -330,7 +346,7 @@ fn print_line(i: usize) {
 
 fn print_lines() {
     let mut i = 0;
-    while i < 49 {
+    while i < 65 {
         print_line(i);
         i += 1;
     }

@@ -64,6 +64,8 @@ fn print_meaning(text: &[u8], tokens: &[u64], r: Refusal) {
         Refusal::TooDeep(_) => print_text(b"more than 64 blocks inside one another"),
         Refusal::TableShort(_) => print_text(b"too many entries for this program"),
         Refusal::Undetermined => print_text(b"an undetermined stack effect"),
+        // reading gives no other
+        _ => print_text(b""),
     }
 }
 

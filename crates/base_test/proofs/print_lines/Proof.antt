@@ -1,14 +1,14 @@
--- `base_test::print_lines` ends: it counts up to 49. Assumes nothing.
+-- `base_test::print_lines` ends: it counts up to 65. Assumes nothing.
 use borrow.Author.Needs.{needs}
 use Prim.Native.Nat.{_≤_, _-_}
 use Rattle.base_test.proofs.print_lines.Statement.{statement}
 use Rattle.base_test.proofs.print_lines.Tie as tie
 
 abbrev Inv-loop : tie.InvT-loop
-Inv-loop i₀ i = i ≤ 49
+Inv-loop i₀ i = i ≤ 65
 
 abbrev μ-loop : tie.MeasureT-loop
-μ-loop i₀ i = 49 - i
+μ-loop i₀ i = 65 - i
 
 pub print-lines-spec : {M : Type 1} → statement M
 print-lines-spec =
