@@ -1,0 +1,3 @@
+pub mod There
+pub mod Turns
+pub mod Bits
