@@ -11,7 +11,7 @@ use borrow.Author.Tests.{ltb-true, ltb-false}
 use lib.ListN.{length, take, getD, set, length-map}
 use lib.Seq.{length-take-le, getD-take, take-suc, take-suc-set, take-set-lt, map-set-same}
 use Rattle.labels.specs.Labels.{isSame, moved, firstSame}
-use Rattle.labels.specs.Index.{bucketOf, headOf, nextOf, linked, Last, Chains, ChainsOf, Indexed}
+use Rattle.labels.specs.Index.{bucketOf, headOf, nextOf, linked, Last, Chains, ChainsOf, Distinct, Indexed}
 use Rattle.labels.proofs.Same.{not-both, moved-equal, equal-same, found-first, none-found}
 use Rattle.labels.proofs.Hashing.{bucket-inside, same-bucket}
 use Rattle.labels.proofs.Linking.{linked-long, chains-more}
@@ -103,6 +103,19 @@ module _ (text s : List ℕ) (seed m : ℕ) (out index : List ℕ) (a : Indexed 
       in
       let kept : map f (take m (set out k v)) ≡ bs = ap (map f) (take-set-lt m out k v h) ∙ map-set-same f (take m out) k v 0 same in
       subst (λ (l : List ℕ). Chains l index) (sym kept) (a .chains)
+
+-- ---- the chains of the same labels anew
+
+pub indexed-anew : (text s : List ℕ) (seed m : ℕ) (out index : List ℕ) → Indexed text s seed m out index → (seed′ m′ : ℕ) (index′ : List ℕ) → length index′ ≡ length index → m′ ≡ m
+    → ChainsOf text s seed′ (take m′ out) index′ → Indexed text s seed′ m′ out index′
+indexed-anew text s seed m out index a seed′ m′ index′ long e c =
+    record {
+      inside = omega (arith, a .inside, e);
+      room = omega (arith, a .room, e, long);
+      few = omega (arith, a .few, long);
+      distinct = subst (λ (k : ℕ). Distinct text s (take k out)) (sym e) (a .distinct);
+      chains = c;
+    }
 
 -- ---- one label more
 

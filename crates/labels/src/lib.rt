@@ -9,8 +9,10 @@ ghost use mathlib.Core.Path.{_≡_};
 ghost use Prim.Native.Nat.{_-_, _≤_, _<_};
 ghost use mathlib.Core.List.{[]};
 ghost use lib.ListN.{length, take};
-ghost use Rattle.labels.specs.Labels.{moved, Placed, Merged};
-ghost use Rattle.labels.specs.Index.{hashOf, bucketIn, linked, Chains, ChainsOf, Indexed, Finds};
+ghost use Rattle.labels.specs.Labels.{firstSame, moved, Placed, Merged};
+ghost use Rattle.labels.specs.Index.{hashOf, bucketIn, linked, Chains, ChainsOf, Distinct, Indexed, Finds};
+
+const FIRST_SEED: u32 = 1540483477;
 
 // Where a label stands, its bucket, and how many steps the walk took.
 struct Found {
@@ -20,10 +22,16 @@ struct Found {
 }
 
 // How many labels there are, the seed of their index, and how many steps walks may take before another.
-struct Merging {
-    labels: usize,
+pub struct Merging {
+    pub labels: usize,
     seed: u32,
     left: usize,
+}
+
+// Where a label stands, and the index after the walk.
+pub struct LookedUp {
+    pub place: usize,
+    pub merging: Merging,
 }
 
 // The hash of a level and a name. The multiplication at the end spreads names that differ in the last byte only.
@@ -223,7 +231,7 @@ pub fn merge_labels(
     clear(chains);
     let mut t = Merging {
         labels: 0,
-        seed: 1540483477,
+        seed: FIRST_SEED,
         left: n * 8,
     };
     let mut i = 0;
@@ -233,4 +241,52 @@ pub fn merge_labels(
         i += 1;
     }
     t.labels
+}
+
+// ---- a table that is merged already
+
+// The index of the first m labels of a table, of which none stands twice.
+pub fn index_labels(text: &[u8], s: &[u64], labels: &[u64], m: usize, index: &mut [u64]) -> Merging
+    requires { ⌜ (m ≤ length (now labels)) × ((m < length (now index)) × (length (now index) < 4294967296)) ⌝ }
+    requires { ⌜ Distinct (now text) (now s) (take m (now labels)) ⌝ }
+    ensures all { λ r. ⌜ r .labels ≡ m ⌝ }
+    ensures indexed { λ r. ⌜ Indexed (now (text .entry)) (now (s .entry)) (r .seed) (r .labels) (now (labels .entry)) (now (index .exit)) ⌝ }
+{
+    let seed = FIRST_SEED;
+    rebuild(text, s, seed, labels, m, index);
+    Merging {
+        labels: m,
+        seed,
+        left: index.len() * 8,
+    }
+}
+
+// The place of the first label of the level and name of w, or how many labels there are.
+pub fn look_up(
+    text: &[u8],
+    s: &[u64],
+    labels: &[u64],
+    t: Merging,
+    index: &mut [u64],
+    w: u64,
+) -> LookedUp
+    requires { ⌜ Indexed (now text) (now s) (t .seed) (t .labels) (now labels) (now index) ⌝ }
+    ensures found { λ r. ⌜ r .place ≡ firstSame (now (text .entry)) (now (s .entry)) w (take (t .labels) (now (labels .entry))) ⌝ }
+    ensures kept { λ r. ⌜ r .merging .labels ≡ t .labels ⌝ }
+    ensures indexed { λ r. ⌜ Indexed (now (text .entry)) (now (s .entry)) (r .merging .seed) (r .merging .labels) (now (labels .entry)) (now (index .exit)) ⌝ }
+{
+    let u = spread(text, s, labels, t, index);
+    let m = u.labels;
+    let seed = u.seed;
+    let found = find_label(text, s, seed, labels, m, index, w);
+    let left = less(u.left, found.steps);
+    let merging = Merging {
+        labels: m,
+        seed,
+        left,
+    };
+    LookedUp {
+        place: found.place,
+        merging,
+    }
 }

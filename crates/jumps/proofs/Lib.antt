@@ -1,0 +1,5 @@
+pub mod Found
+pub mod Positions
+pub mod Levels
+pub mod Accepted
+pub mod Actions
