@@ -1,0 +1,10 @@
+pub mod Forms
+pub mod Trees
+pub mod Records
+pub mod Bytes
+pub mod Late
+pub mod Early
+pub mod Fits
+pub mod Spots
+pub mod Holding
+pub mod Length
