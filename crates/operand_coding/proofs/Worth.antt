@@ -31,7 +31,9 @@ use Rattle.words.specs.Spellings.{bytes}
 use Rattle.words.specs.Words.{sameWord}
 use Rattle.movies.specs.Movie.{Value, null, numberIn, textIn, isRegister}
 use Rattle.movies.specs.Strings.{decoded}
-use Rattle.movies.specs.Meaning.{meant}
+use Rattle.movies.specs.Meaning.{meant, meaning}
+use Rattle.lexemes.specs.Lexemes.{lexeme}
+use Rattle.action_records.specs.Operands.{pushedAs}
 use Rattle.operand_coding.specs.Operands.{meaningIn, Held}
 
 abbrev pub worth : List ℕ → Answer PushValue → Value
@@ -163,3 +165,8 @@ module _ (text : List ℕ) (t : Token) where
 
   pub register-is : isKind (t .kind) (K.Register 0) ≡ isRegister (meaningIn text t)
   register-is = sym (by-kind (rawText text t) (t .kind) (span 0 (length (rawText text t))) .1)
+
+-- ---- by the kind of a token
+
+pub kind-told : (text : List ℕ) (t : Token) {k : TokenKind} → t .kind ≡ k → pushedAs (meaning (lexeme 0 k (rawText text t))) ≡ pushedAs (meaningIn text t)
+kind-told text t e = ap (λ (k : TokenKind). pushedAs (meaning (lexeme 0 k (rawText text t)))) (sym e)

@@ -183,7 +183,8 @@ fn put_value(w: &[u8], v: PushValue, out: &mut [u8], c: Coded) -> Coded
     }
 }
 
-pub fn put_pushed(text: &[u8], token: Token, out: &mut [u8], c: Coded) -> Coded
+// A value by what its token is worth.
+fn put_worth(text: &[u8], token: Token, out: &mut [u8], c: Coded) -> Coded
     requires { ⌜ Held (now text) token ⌝ }
     requires { ⌜ Room 131075 c ⌝ }
     ensures { λ r. ⌜ Codes (R.pushedAs (meaningIn (now (text .entry)) token)) c (now (out .entry)) (now (out .exit)) r ⌝ }
@@ -192,5 +193,21 @@ pub fn put_pushed(text: &[u8], token: Token, out: &mut [u8], c: Coded) -> Coded
     match values::value(text, token) {
         TokenValue::Is(v) => put_value(raw_text(text, token), v, out, c),
         TokenValue::Refused(_) => put_8(out, c, 2),
+    }
+}
+
+// A value and its type. The kind tells all of a string, a register and a constant.
+pub fn put_pushed(text: &[u8], token: Token, out: &mut [u8], c: Coded) -> Coded
+    requires { ⌜ Held (now text) token ⌝ }
+    requires { ⌜ Room 131075 c ⌝ }
+    ensures { λ r. ⌜ Codes (R.pushedAs (meaningIn (now (text .entry)) token)) c (now (out .entry)) (now (out .exit)) r ⌝ }
+    ensures { λ r. ⌜ Adds 131075 c r ⌝ }
+{
+    let kind = token.kind;
+    match kind {
+        TokenKind::String(_) => put_typed_string(raw_text(text, token), out, c),
+        TokenKind::Register(n) => put_typed(out, c, 4, n as u64),
+        TokenKind::Constant(n) => put_constant(out, c, n),
+        _ => put_worth(text, token, out, c),
     }
 }
