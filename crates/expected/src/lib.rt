@@ -277,9 +277,9 @@ fn sentence_for(text: &[u8], tokens: &[u64], index: usize, stands: Stands) -> Se
 }
 
 // Says what was expected at the token of a refusal 6. `tokens` are those of the text, and no more.
-pub fn print_expected(text: &[u8], tokens: &[u64], index: usize) {
+pub fn print_expected(fd: i32, text: &[u8], tokens: &[u64], index: usize) {
     let stands = stands_at(text, tokens, index);
-    print_sentence(sentence_for(text, tokens, index, stands), stands);
+    print_sentence(fd, sentence_for(text, tokens, index, stands), stands);
 }
 
 fn before(index: usize) -> usize {

@@ -1,7 +1,7 @@
 // The sentences: what was expected in an action, by its shape, the number of the operand and what stands there. docs/FORMAT.md lists
 // them.
 use crate::stands::Stands;
-use printing::print_text;
+use printing::write_text;
 use shapes::Shape;
 use wanted::Wanted;
 use wanted::wanted_at;
@@ -194,157 +194,193 @@ pub fn sentence_of(
 
 // ---- the words
 
-fn print_wanted(w: Wanted) {
+fn print_wanted(fd: i32, w: Wanted) {
     match w {
-        Wanted::Nothing => print_text(b"nothing"),
-        Wanted::String => print_text(b"a string"),
-        Wanted::Value => print_text(b"a value"),
-        Wanted::Bool => print_text(b"true or false"),
-        Wanted::Flag => print_text(b"true or false (nine of them)"),
-        Wanted::U8 => print_text(b"a whole number from 0 to 255"),
-        Wanted::U16 => print_text(b"a whole number from 0 to 65,535"),
-        Wanted::Count => print_text(b"a count (a whole number up to 2,147,483,647)"),
-        Wanted::Parameter => print_text(b"a string (as many as the count says)"),
+        Wanted::Nothing => write_text(fd, b"nothing"),
+        Wanted::String => write_text(fd, b"a string"),
+        Wanted::Value => write_text(fd, b"a value"),
+        Wanted::Bool => write_text(fd, b"true or false"),
+        Wanted::Flag => write_text(fd, b"true or false (nine of them)"),
+        Wanted::U8 => write_text(fd, b"a whole number from 0 to 255"),
+        Wanted::U16 => write_text(fd, b"a whole number from 0 to 65,535"),
+        Wanted::Count => write_text(fd, b"a count (a whole number up to 2,147,483,647)"),
+        Wanted::Parameter => write_text(fd, b"a string (as many as the count says)"),
         Wanted::Register => {
-            print_text(b"a whole number from 0 to 255 (with a string, as often as the count says)")
+            write_text(
+                fd,
+                b"a whole number from 0 to 255 (with a string, as often as the count says)",
+            )
         }
-        Wanted::Label => print_text(b"a label's name"),
-        Wanted::Target => print_text(b"a string, a register or `{`"),
+        Wanted::Label => write_text(fd, b"a label's name"),
+        Wanted::Target => write_text(fd, b"a string, a register or `{`"),
     }
 }
 
 // The end of the line or of the text is told first: it is not seen under the mark.
-fn print_early(stands: Stands) {
+fn print_early(fd: i32, stands: Stands) {
     match stands {
-        Stands::Newline => print_text(b"the line ends too early: "),
-        Stands::End => print_text(b"the text ends too early: "),
+        Stands::Newline => write_text(fd, b"the line ends too early: "),
+        Stands::End => write_text(fd, b"the text ends too early: "),
         _ => {}
     }
 }
 
-fn print_name_hint(stands: Stands) {
+fn print_name_hint(fd: i32, stands: Stands) {
     match stands {
-        Stands::String => print_text(b": it has no quotes"),
-        Stands::Action => print_text(b": an action's name cannot be a label"),
+        Stands::String => write_text(fd, b": it has no quotes"),
+        Stands::Action => write_text(fd, b": an action's name cannot be a label"),
         Stands::Keyword | Stands::Catch | Stands::Finally => {
-            print_text(b": this word has another meaning")
+            write_text(fd, b": this word has another meaning")
         }
         _ => {}
     }
 }
 
-fn print_quote_hint(stands: Stands) {
+fn print_quote_hint(fd: i32, stands: Stands) {
     match stands {
         Stands::Word | Stands::Action | Stands::Quote => {
-            print_text(b" (a string has double quotes)")
+            write_text(fd, b" (a string has double quotes)")
         }
-        Stands::Beyond => print_text(b" (registers go up to 255, constants to 65,535)"),
+        Stands::Beyond => write_text(fd, b" (registers go up to 255, constants to 65,535)"),
         _ => {}
     }
 }
 
-fn print_target_hint(stands: Stands) {
+fn print_target_hint(fd: i32, stands: Stands) {
     match stands {
-        Stands::Newline => print_text(b" on the same line"),
-        _ => print_quote_hint(stands),
+        Stands::Newline => write_text(fd, b" on the same line"),
+        _ => print_quote_hint(fd, stands),
     }
 }
 
-fn print_hint(w: Wanted, stands: Stands) {
+fn print_hint(fd: i32, w: Wanted, stands: Stands) {
     match w {
-        Wanted::Label => print_name_hint(stands),
-        Wanted::String | Wanted::Value | Wanted::Parameter => print_quote_hint(stands),
-        Wanted::Target => print_target_hint(stands),
+        Wanted::Label => print_name_hint(fd, stands),
+        Wanted::String | Wanted::Value | Wanted::Parameter => print_quote_hint(fd, stands),
+        Wanted::Target => print_target_hint(fd, stands),
         _ => {}
     }
 }
 
-fn print_operand(w: Wanted, stands: Stands) {
-    print_early(stands);
-    print_wanted(w);
-    print_text(b" was expected");
-    print_hint(w, stands);
+fn print_operand(fd: i32, w: Wanted, stands: Stands) {
+    print_early(fd, stands);
+    print_wanted(fd, w);
+    write_text(fd, b" was expected");
+    print_hint(fd, w, stands);
 }
 
-fn print_operand_or_end(w: Wanted, stands: Stands) {
-    print_wanted(w);
-    print_text(b" or the end of the line was expected");
-    print_hint(w, stands);
+fn print_operand_or_end(fd: i32, w: Wanted, stands: Stands) {
+    print_wanted(fd, w);
+    write_text(fd, b" or the end of the line was expected");
+    print_hint(fd, w, stands);
 }
 
-fn print_comma_then(w: Wanted, stands: Stands) {
-    print_early(stands);
-    print_text(b"a comma was expected, then ");
-    print_wanted(w);
+fn print_comma_then(fd: i32, w: Wanted, stands: Stands) {
+    print_early(fd, stands);
+    write_text(fd, b"a comma was expected, then ");
+    print_wanted(fd, w);
 }
 
-fn print_brace(stands: Stands) {
-    print_early(stands);
+fn print_brace(fd: i32, stands: Stands) {
+    print_early(fd, stands);
     match stands {
-        Stands::Newline => print_text(b"`{` was expected on the same line"),
-        _ => print_text(b"`{` was expected"),
+        Stands::Newline => write_text(fd, b"`{` was expected on the same line"),
+        _ => write_text(fd, b"`{` was expected"),
     }
 }
 
-pub fn print_sentence(s: Sentence, stands: Stands) {
+pub fn print_sentence(fd: i32, s: Sentence, stands: Stands) {
     match s {
-        Sentence::Operand(w) => print_operand(w, stands),
-        Sentence::OperandOrEnd(w) => print_operand_or_end(w, stands),
-        Sentence::CommaThen(w) => print_comma_then(w, stands),
-        Sentence::CommaOrEnd => print_text(b"a comma or the end of the line was expected"),
-        Sentence::Brace => print_brace(stands),
+        Sentence::Operand(w) => print_operand(fd, w, stands),
+        Sentence::OperandOrEnd(w) => print_operand_or_end(fd, w, stands),
+        Sentence::CommaThen(w) => print_comma_then(fd, w, stands),
+        Sentence::CommaOrEnd => write_text(fd, b"a comma or the end of the line was expected"),
+        Sentence::Brace => print_brace(fd, stands),
         Sentence::BraceByCount => {
-            print_text(b"`{` was expected: the count says how many parameters there are")
+            write_text(
+                fd,
+                b"`{` was expected: the count says how many parameters there are",
+            )
         }
         Sentence::BraceNoMore => {
-            print_text(b"`{` was expected: this action takes no more operands")
+            write_text(fd, b"`{` was expected: this action takes no more operands")
         }
-        Sentence::LineEnd => print_text(b"the end of the line was expected"),
+        Sentence::LineEnd => write_text(fd, b"the end of the line was expected"),
         Sentence::NoOperands => {
-            print_text(b"the end of the line was expected: this action takes no operands")
+            write_text(
+                fd,
+                b"the end of the line was expected: this action takes no operands",
+            )
         }
         Sentence::NoMoreOperands => {
-            print_text(b"the end of the line was expected: this action takes no more operands")
+            write_text(
+                fd,
+                b"the end of the line was expected: this action takes no more operands",
+            )
         }
         Sentence::NoBlock => {
-            print_text(b"the end of the line was expected: no block can stand here")
+            write_text(
+                fd,
+                b"the end of the line was expected: no block can stand here",
+            )
         }
-        Sentence::LineBeforeBrace => print_text(b"a new line was expected before `}`"),
-        Sentence::LineBeforeCatch => print_text(b"a new line was expected before catch"),
-        Sentence::LineBeforeFinally => print_text(b"a new line was expected before finally"),
+        Sentence::LineBeforeBrace => write_text(fd, b"a new line was expected before `}`"),
+        Sentence::LineBeforeCatch => write_text(fd, b"a new line was expected before catch"),
+        Sentence::LineBeforeFinally => write_text(fd, b"a new line was expected before finally"),
         Sentence::OneToALine => {
-            print_text(b"the end of the line was expected: each action has its own line")
+            write_text(
+                fd,
+                b"the end of the line was expected: each action has its own line",
+            )
         }
-        Sentence::ActionAsLabel => print_text(b"an action's name cannot be a label"),
-        Sentence::NoSuchAction => print_text(b"no such action, or a label without its colon"),
+        Sentence::ActionAsLabel => write_text(fd, b"an action's name cannot be a label"),
+        Sentence::NoSuchAction => write_text(fd, b"no such action, or a label without its colon"),
         Sentence::KeywordAsLabel => {
-            print_text(b"this word has another meaning and cannot be a label")
+            write_text(fd, b"this word has another meaning and cannot be a label")
         }
-        Sentence::ActionOrLabel => print_text(b"an action or a label was expected"),
-        Sentence::ActionLabelOrBrace => print_text(b"an action, a label or `}` was expected"),
-        Sentence::NotOpen => print_text(b"no block is open here that `}` could close"),
+        Sentence::ActionOrLabel => write_text(fd, b"an action or a label was expected"),
+        Sentence::ActionLabelOrBrace => write_text(fd, b"an action, a label or `}` was expected"),
+        Sentence::NotOpen => write_text(fd, b"no block is open here that `}` could close"),
         Sentence::BraceAlone => {
-            print_text(b"`{` stands on the line of its action, behind the operands")
+            write_text(
+                fd,
+                b"`{` stands on the line of its action, behind the operands",
+            )
         }
         Sentence::HandlerAlone => {
-            print_text(b"catch and finally stand behind a Try's block, each once and in this order")
+            write_text(
+                fd,
+                b"catch and finally stand behind a Try's block, each once and in this order",
+            )
         }
-        Sentence::InsideBlock => { print_text(b"the text ends inside a block: `}` was expected") }
+        Sentence::InsideBlock => {
+            write_text(fd, b"the text ends inside a block: `}` was expected")
+        }
         Sentence::NameCut => {
-            print_text(b"a name has the letters a to z, digits, _ and $, and nothing else")
+            write_text(
+                fd,
+                b"a name has the letters a to z, digits, _ and $, and nothing else",
+            )
         }
-        Sentence::Comment => print_text(b"there are no comments in a patch"),
+        Sentence::Comment => write_text(fd, b"there are no comments in a patch"),
         Sentence::Semicolon => {
-            print_text(b"the end of the line ends an action, and there are no comments in a patch")
+            write_text(
+                fd,
+                b"the end of the line ends an action, and there are no comments in a patch",
+            )
         }
-        Sentence::Space => print_text(b"this is no plain space: type it again"),
+        Sentence::Space => write_text(fd, b"this is no plain space: type it again"),
         Sentence::ByteOrderMark => {
-            print_text(b"a byte order mark cannot stand here: save the file without one")
+            write_text(
+                fd,
+                b"a byte order mark cannot stand here: save the file without one",
+            )
         }
-        Sentence::Control => print_text(b"a control character cannot stand here"),
-        Sentence::Exponent => print_text(
+        Sentence::Control => write_text(fd, b"a control character cannot stand here"),
+        Sentence::Exponent => write_text(
+            fd,
             b"end the line: an exponent's digits are not taken where they run to the end of the text",
         ),
-        Sentence::Digitless => print_text(b"a digit is missing in this number"),
+        Sentence::Digitless => write_text(fd, b"a digit is missing in this number"),
     }
 }

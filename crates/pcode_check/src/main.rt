@@ -7,13 +7,14 @@ use files::Input;
 use files::Outcome;
 use files::Tally;
 use libc::STDERR_FILENO;
+use libc::STDOUT_FILENO;
 use printing::print_number;
 use printing::print_text;
 use reporting::print_name;
 use std::num::wrapping_add_u64;
 
 fn print_ok(name: &[u8], c: Counts) {
-    print_name(name);
+    print_name(STDOUT_FILENO, name);
     print_text(b": ok, ");
     reporting::print_counts(c.actions, c.operands, c.levels, c.labels);
 }
@@ -39,7 +40,7 @@ fn check_text(name: &[u8], text: &[u8]) -> Outcome {
             Outcome::Read(reporting::print_warnings(name, text, &tokens, &operands, c.operands))
         }
         Reading::Refused(r) => {
-            reporting::print_refused(name, text, &mut tokens, r);
+            reporting::print_refused(STDOUT_FILENO, name, text, &mut tokens, r);
             Outcome::Refused
         }
     }

@@ -5,12 +5,13 @@ use as2_pcode::Reading;
 use files::Input;
 use files::Outcome;
 use files::Tally;
+use libc::STDOUT_FILENO;
 use printing::print_text;
 use reporting::print_name;
 
 fn print_head(name: &[u8], c: Counts) {
     print_text(b"file  ");
-    print_name(name);
+    print_name(STDOUT_FILENO, name);
     print_text(b": ");
     reporting::print_counts(c.actions, c.operands, c.levels, c.labels);
 }
@@ -37,7 +38,7 @@ fn show_text(name: &[u8], text: &[u8]) -> Outcome {
             Outcome::Read(0)
         }
         Reading::Refused(r) => {
-            reporting::print_refused(name, text, &mut tokens, r);
+            reporting::print_refused(STDOUT_FILENO, name, text, &mut tokens, r);
             Outcome::Refused
         }
     }

@@ -1,14 +1,22 @@
-// What the programs print: text, numbers, bounds and refusals, on standard output.
+// What the programs print: text, numbers, bounds and refusals, on standard output; text and numbers on any descriptor.
 use answers::Refusal;
 use libc::STDOUT_FILENO;
 use tokens::Span;
 
+pub fn write_text(fd: i32, text: &[u8]) {
+    io::write_all(fd, text);
+}
+
+pub fn write_number(fd: i32, n: u64) {
+    io::print_decimal(fd, n);
+}
+
 pub fn print_text(text: &[u8]) {
-    io::write_all(STDOUT_FILENO, text);
+    write_text(STDOUT_FILENO, text);
 }
 
 pub fn print_number(n: u64) {
-    io::print_decimal(STDOUT_FILENO, n);
+    write_number(STDOUT_FILENO, n);
 }
 
 pub fn print_signed(n: i32) {

@@ -1,21 +1,23 @@
 // What a program says of a text: how much was read, and what it warns of; or where it is refused, what that means, and the line with a
 // mark under the place.
+mod uncoded;
 mod warning;
 
 use answers::Refusal;
 use lexer::Lexing;
-use libc::STDOUT_FILENO;
 use printing::print_number;
 use printing::print_text;
+use printing::write_number;
+use printing::write_text;
 pub use warning::print_warnings;
 pub use warning::put_lost;
 
-pub fn print_name(name: &[u8]) {
+pub fn print_name(fd: i32, name: &[u8]) {
     if files::is_standard_input(name) {
-        print_text(b"(standard input)");
+        write_text(fd, b"(standard input)");
         return;
     }
-    views::print_name(STDOUT_FILENO, name);
+    views::print_name(fd, name);
 }
 
 // So many of a thing.
@@ -39,33 +41,46 @@ pub fn print_counts(actions: usize, operands: usize, levels: usize, labels: usiz
     print_text(b"\n");
 }
 
-// The byte to mark: rows 6 and 7 name a token.
+// The byte to mark: rows 6 and 7 name a token, 10 and 11 an action.
 fn byte_of(text: &[u8], tokens: &[u64], r: Refusal) -> usize {
     match r {
         Refusal::NotGrammatical(k) => {
             expected::start_of(text, tokens, expected::marked_token(text, tokens, k))
         }
         Refusal::TooDeep(k) => expected::start_of(text, tokens, k),
+        Refusal::NoLabel(k) => expected::start_of(text, tokens, uncoded::label_token(tokens, k)),
+        Refusal::Uncodable(k) => expected::start_of(text, tokens, uncoded::name_token(tokens, k)),
         _ => answers::refusal_place(r),
     }
 }
 
-fn print_meaning(text: &[u8], tokens: &[u64], r: Refusal) {
+fn print_meaning(fd: i32, text: &[u8], tokens: &[u64], r: Refusal) {
     match r {
-        Refusal::TooLong => print_text(b"longer than 65,536 bytes"),
-        Refusal::NotUtf8(_) => print_text(b"not UTF-8"),
-        Refusal::LoneQuote(_) => print_text(b"this quote opens a string that is not closed"),
+        Refusal::TooLong => write_text(fd, b"longer than 65,536 bytes"),
+        Refusal::NotUtf8(_) => write_text(fd, b"not UTF-8"),
+        Refusal::LoneQuote(_) => write_text(fd, b"this quote opens a string that is not closed"),
         Refusal::CutCharacter(_) => {
-            print_text(b"this string is not closed, and ends in a character over one byte")
+            write_text(
+                fd,
+                b"this string is not closed, and ends in a character over one byte",
+            )
         }
-        Refusal::TokenTableShort(_) => print_text(b"too many tokens for this program"),
-        Refusal::NotGrammatical(k) => expected::print_expected(text, tokens, k),
-        Refusal::NoValue => print_text(b"no value"),
-        Refusal::TooDeep(_) => print_text(b"more than 64 blocks inside one another"),
-        Refusal::TableShort(_) => print_text(b"too many entries for this program"),
-        Refusal::Undetermined => print_text(b"an undetermined stack effect"),
-        // reading gives no other
-        _ => print_text(b""),
+        Refusal::TokenTableShort(_) => write_text(fd, b"too many tokens for this program"),
+        Refusal::NotGrammatical(k) => expected::print_expected(fd, text, tokens, k),
+        Refusal::NoValue => write_text(fd, b"no value"),
+        Refusal::TooDeep(_) => write_text(fd, b"more than 64 blocks inside one another"),
+        Refusal::TableShort(_) => write_text(fd, b"too many entries for this program"),
+        Refusal::Undetermined => write_text(fd, b"an undetermined stack effect"),
+        Refusal::NoLabel(_) => {
+            write_text(
+                fd,
+                b"this level has no such label: a jump reaches labels of its own level only",
+            )
+        }
+        Refusal::Uncodable(k) => uncoded::print_uncodable(fd, tokens, k),
+        Refusal::OutputShort(_) => write_text(fd, b"too many bytes for this program"),
+        // reading and export give no other
+        _ => write_text(fd, b""),
     }
 }
 
@@ -77,15 +92,17 @@ fn has_place(r: Refusal) -> bool {
         Refusal::CutCharacter(_) => true,
         Refusal::NotGrammatical(_) => true,
         Refusal::TooDeep(_) => true,
+        Refusal::NoLabel(_) => true,
+        Refusal::Uncodable(_) => true,
         _ => false,
     }
 }
 
-fn print_place(line: usize, column: usize) {
-    print_text(b":");
-    print_number(line as u64);
-    print_text(b":");
-    print_number(column as u64);
+fn print_place(fd: i32, line: usize, column: usize) {
+    write_text(fd, b":");
+    write_number(fd, line as u64);
+    write_text(fd, b":");
+    write_number(fd, column as u64);
 }
 
 // What of a text may be shown: where it is not UTF-8, the part before that.
@@ -97,21 +114,29 @@ fn shown<'a>(text: &'a [u8], r: Refusal) -> &'a [u8] {
     views::part(text, 0, end)
 }
 
+fn print_number_of(fd: i32, r: Refusal, with_place: bool) {
+    write_text(fd, b": refused ");
+    write_number(fd, answers::refusal_number(r));
+    if with_place {
+        write_text(fd, b" at ");
+        write_number(fd, answers::refusal_place(r) as u64);
+    }
+    write_text(fd, b": ");
+}
+
 // One line that says what is wrong, and two that show it where it has a place.
-fn print_report(name: &[u8], text: &[u8], tokens: &[u64], r: Refusal) {
+fn print_report(fd: i32, name: &[u8], text: &[u8], tokens: &[u64], r: Refusal, with_place: bool) {
     let at = byte_of(text, tokens, r);
     let placed = has_place(r);
-    print_name(name);
+    print_name(fd, name);
     if placed {
-        print_place(places::line_at(text, at), places::column_at(text, at));
+        print_place(fd, places::line_at(text, at), places::column_at(text, at));
     }
-    print_text(b": refused ");
-    print_number(answers::refusal_number(r));
-    print_text(b": ");
-    print_meaning(text, tokens, r);
-    print_text(b"\n");
+    print_number_of(fd, r, with_place);
+    print_meaning(fd, text, tokens, r);
+    write_text(fd, b"\n");
     if placed {
-        views::print_view(shown(text, r), at);
+        views::print_view(fd, shown(text, r), at);
     }
 }
 
@@ -123,8 +148,14 @@ fn lexed(text: &[u8], tokens: &mut [u64]) -> usize {
     }
 }
 
-// Reports a refused text. A refused reading leaves the token table as it was, and the place may be a token: the text is lexed again.
-pub fn print_refused(name: &[u8], text: &[u8], tokens: &mut [u64], r: Refusal) {
+// Reports a refused text. A refusal leaves the token table as it was, and its place may be a token or an action: the text is lexed again.
+pub fn print_refused(fd: i32, name: &[u8], text: &[u8], tokens: &mut [u64], r: Refusal) {
     let n = lexed(text, tokens);
-    print_report(name, text, lookups::words_from(tokens, 0, n), r);
+    print_report(fd, name, text, lookups::words_from(tokens, 0, n), r, false);
+}
+
+// The same with the place as the call answers it, as an export is refused.
+pub fn print_refused_at(fd: i32, name: &[u8], text: &[u8], tokens: &mut [u64], r: Refusal) {
+    let n = lexed(text, tokens);
+    print_report(fd, name, text, lookups::words_from(tokens, 0, n), r, true);
 }

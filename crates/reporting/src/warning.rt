@@ -5,6 +5,7 @@ use columns::Cursor;
 use columns::put_byte;
 use columns::put_pair;
 use columns::put_text;
+use libc::STDOUT_FILENO;
 use printing::print_text;
 use scanner::byte_at;
 use tokens::Token;
@@ -65,12 +66,12 @@ fn print_lost(text: &[u8], token: Token) {
 
 fn print_warning(name: &[u8], text: &[u8], token: Token, line: usize) {
     let at = lost_at(token);
-    print_name(name);
-    print_place(line, places::column_at(text, at));
+    print_name(STDOUT_FILENO, name);
+    print_place(STDOUT_FILENO, line, places::column_at(text, at));
     print_text(b": warning: no closing quote: ");
     print_lost(text, token);
     print_text(b"\n");
-    views::print_view(text, at);
+    views::print_view(STDOUT_FILENO, text, at);
 }
 
 // ---- all of them

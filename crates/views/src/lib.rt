@@ -1,6 +1,5 @@
 // What the programs show of a text: a line with a mark under a place; of a file, its name. Control characters are shown as `?`; after the
 // place of a mark they end the line.
-use libc::STDOUT_FILENO;
 use scanner::byte_at;
 ghost use Prim.Native.Nat.{_+_, _≤_};
 ghost use lib.ListN.{length};
@@ -245,23 +244,23 @@ fn goes_on(text: &[u8], to: usize) -> bool {
     !is_control(text, to)
 }
 
-fn print_if(is_so: bool, text: &[u8]) {
+fn print_if(fd: i32, is_so: bool, text: &[u8]) {
     if is_so {
-        io::write_all(STDOUT_FILENO, text);
+        io::write_all(fd, text);
     }
 }
 
 // The line of a place, and a mark below the place.
-pub fn print_view(text: &[u8], at: usize) {
+pub fn print_view(fd: i32, text: &[u8], at: usize) {
     let start = places::line_start(text, at);
     let w = window_at(text, start, at);
     let from = w.from;
     let to = w.to;
-    print_if(start < from, b"...");
-    print_bytes(STDOUT_FILENO, text, from, to, Row::Shown);
-    print_if(goes_on(text, to), b"...");
-    print_if(true, b"\n");
-    print_if(start < from, b"   ");
-    print_bytes(STDOUT_FILENO, text, from, at, Row::Below);
-    print_if(true, b"^\n");
+    print_if(fd, start < from, b"...");
+    print_bytes(fd, text, from, to, Row::Shown);
+    print_if(fd, goes_on(text, to), b"...");
+    print_if(fd, true, b"\n");
+    print_if(fd, start < from, b"   ");
+    print_bytes(fd, text, from, at, Row::Below);
+    print_if(fd, true, b"^\n");
 }
