@@ -1,1 +1,2 @@
 pub mod ReadFor
+pub mod ExportFor

@@ -14,6 +14,7 @@ ghost use Rattle.c_tokens.specs.Tokens.{returned, tokensAfter, tokenAfter, boun
 ghost use Rattle.c_tokens.specs.Places.{nameOf, wordAfter, placeAfter};
 ghost use Rattle.c_entries.specs.Entries.{actionAfter, operandAfter, levelAfter, heightAfter, labelAfter};
 ghost use Rattle.pcode_c.specs.ReadFor.{ReadFor};
+ghost use Rattle.pcode_c.specs.ExportFor.{ExportFor};
 
 #[no_mangle]
 pub extern "C" fn pcode_lex(text: &[u8], table: &mut [u64], out: &mut [u64; 1]) -> u64
@@ -39,6 +40,25 @@ pub extern "C" fn pcode_read(
 {
     let answer = as2_pcode::read(text, tokens, actions, operands, levels, labels);
     c_entries::tell_reading(answer, out)
+}
+
+#[no_mangle]
+pub extern "C" fn pcode_export(
+    text: &[u8],
+    tokens: &mut [u64],
+    actions: &mut [u64],
+    operands: &mut [u64],
+    levels: &mut [u64],
+    labels: &mut [u64],
+    as_printed: bool,
+    out: &mut [u8],
+    told: &mut [u64; 6],
+) -> u64
+    ensures { λ r. ⌜ ExportFor «as_printed» (now (text .entry)) (lent (now (tokens .entry)) (now (actions .entry)) (now (operands .entry)) (now (levels .entry)) (now (labels .entry))) (lent (now (tokens .exit)) (now (actions .exit)) (now (operands .exit)) (now (levels .exit)) (now (labels .exit))) (now (out .entry)) (now (out .exit)) (now (told .entry)) (now (told .exit)) r ⌝ }
+{
+    let style = c_export::style_with(as_printed);
+    let answer = export::export(text, tokens, actions, operands, levels, labels, style, out);
+    c_export::tell_export(answer, told)
 }
 
 // ---- the entry of a table's word, a level's of its two
