@@ -1,4 +1,5 @@
 /* Holds the constants of include/pcode.h to what the calls answer. examples/run builds it as C and as C++ and runs both. */
+#include <stdbool.h>
 #include <stdint.h>
 #include <stdio.h>
 #include <string.h>
@@ -7,7 +8,8 @@
 
 enum { PLACES = PCODE_MOST_BYTES + 2 }; /* words: the most that the table of levels takes */
 static char text[PLACES];
-static uint64_t tokens[PLACES], actions[PLACES], operands[PLACES], levels[PLACES], labels[PLACES], out[5];
+static uint64_t tokens[PLACES], actions[PLACES], operands[PLACES], levels[PLACES], labels[PLACES], out[5], told[6];
+static uint8_t movie[PCODE_MOST_MOVIE];
 static int wrong = 0;
 
 static void same(const char *what, uint64_t got, uint64_t expected)
@@ -54,6 +56,12 @@ static const struct {
 static uint64_t read_into(const char *s, size_t n, size_t token_places, size_t places)
 {
     return pcode_read((const uint8_t *)s, n, tokens, token_places, actions, places, operands, places, levels, places, labels, places, out);
+}
+
+static uint64_t export_into(const char *s, size_t bytes, bool as_printed)
+{
+    return pcode_export((const uint8_t *)s, strlen(s), tokens, PLACES, actions, PLACES, operands, PLACES, levels, PLACES, labels, PLACES,
+                        as_printed, movie, bytes, told);
 }
 
 /* The first token of a text. */
@@ -142,6 +150,23 @@ static void check_unclosed(void)
     }
 }
 
+/* GetUrl2 is the one action whose bytes go by as_printed: LoadVariables, and method 1. */
+static void check_export(void)
+{
+    static const char url[] = "GetUrl2 true, false, 1";
+    same("the most bytes of a movie", PCODE_MOST_MOVIE, 10 * (uint64_t)PCODE_MOST_BYTES);
+    same("a jump to nowhere", export_into("Jump a", PCODE_MOST_MOVIE, false), PCODE_REFUSED_NO_LABEL);
+    same("a long number", export_into("Add\nPush 9007199254740993", PCODE_MOST_MOVIE, false), PCODE_REFUSED_UNCODABLE);
+    same("its action", told[0], 1);
+    same("too few bytes", export_into(url, 3, false), PCODE_REFUSED_OUTPUT_SHORT);
+    same("the bytes needed", told[0], 4);
+    same("as many", export_into(url, 4, false), 0);
+    same("the operands", told[2], 3);
+    same("the bytes written", told[5], 4);
+    same("the bits as players have them", movie[3], 0x81);
+    same("and as printed", export_into(url, 4, true) + movie[3], 0x41);
+}
+
 static void check_names(void)
 {
     uint8_t name[PCODE_MOST_NAME + 1];
@@ -159,6 +184,7 @@ int main(void)
     check_refusals();
     check_levels();
     check_unclosed();
+    check_export();
     check_names();
     return wrong;
 }

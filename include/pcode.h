@@ -11,8 +11,8 @@
  *             pcode_token(tokens[label[1]], token);    // its name: the bytes of the text from token[3] up to token[4]
  *         }
  *
- * A whole program is examples/labels.c. The words are those of document 01 (docs/01-scope.md); all numbering starts at 0, but that of
- * lines and columns at 1.
+ * Whole programs are examples/labels.c and, for a movie's bytes, examples/export.c. The words are those of document 01
+ * (docs/01-scope.md); all numbering starts at 0, but that of lines and columns at 1.
  *
  * What is asked of the caller: each pointer points to as many elements as the length beside it or the size in its brackets says and is
  * not NULL, even where that length is 0; it is aligned as its type asks, a uint64_t or int64_t to 8 bytes, an int32_t to 4; what is
@@ -20,11 +20,12 @@
  *
  * What a call does: it writes what is told here and nothing else. It keeps no pointer, has no state and allocates nothing, so threads
  * may call at the same time with tables and out of their own. Its stack depends on the length of the text: the constants PCODE_.._STACK,
- * in bytes. The worst text found takes 1,914,232 of pcode_read, so give a thread that calls it 4,194,304 (PCODE_THREAD_STACK). A main
- * thread usually has 8,388,608.
+ * in bytes. The worst text found takes 1,914,536 of pcode_read and 3,877,608 of pcode_export, so give a thread that calls them 6,291,456
+ * (PCODE_THREAD_STACK). A main thread usually has 8,388,608.
  *
- * A call that can refuse returns 0, or the number of the refusal. A refusal changes no table. Its place goes to out[0] of pcode_lex and
- * pcode_read, the rest of out staying as it was; pcode_delta and pcode_value then write nothing.
+ * A call that can refuse returns 0, or the number of the refusal. A refusal changes no table and no output. Its place goes to out[0] of
+ * pcode_lex and pcode_read, the rest of out staying as it was, and to told[0] of pcode_export likewise; pcode_delta and pcode_value then
+ * write nothing.
  *   1  a text over 65,536 bytes, or a value count over 65,536 given to pcode_delta; place 0
  *   2  not UTF-8 as Rust's str requires; the place is the count of leading valid bytes
  *   3  an opening quote directly before a line feed or the end; the place is the quote's byte
@@ -35,7 +36,12 @@
  *   7  a block opens while 64 are open; the place is the token of its brace
  *   8  another table with too few places; the place is 0 for actions, 1 operands, 2 levels, 3 labels: the lowest that is too short
  *   9  an action whose delta is undetermined; place 0
- * They are tried in this order, but of 3 and 4, and of 6 and 7, the earlier place wins. pcode_lex gives 1 to 5, pcode_read 1 to 8,
+ *  10  an If or Jump whose label is not in its level; the place is the number of that action
+ *  11  an action that cannot be coded: a number that is a long (pcode_value), a zero byte in a string, a GetUrl2 method above 3, operands
+ *      or a body of over 65,535 bytes, or a jump over 32,767 bytes ahead or 32,768 back; the place is the number of that action
+ *  12  an output with too few bytes; the place is how many are needed
+ * They are tried in this order, but of 3 and 4, of 6 and 7, and of 10 and 11 the earlier place wins; how long a body is and how far a
+ * jump goes is asked only where no action has another fault. pcode_lex gives 1 to 5, pcode_read 1 to 8, pcode_export 1 to 8 and 10 to 12,
  * pcode_delta 1 and 9, pcode_value 1 and 6.
  *
  * So the place of 2, 3 and 4 is a byte of the text, and that of 6 and 7 an entry of the token table, which pcode_read left as it was.
@@ -45,8 +51,13 @@
  *     if (out[0] < count[0]) pcode_token(tokens[out[0]], token); else token[1] = text_len;
  *     pcode_line_column(text, text_len, (size_t)token[1], place);         // place[0] is the line, place[1] the column
  *
+ * The place of 10 and 11 is an action: its name is the token of the kind PCODE_KIND_ACTION_NAME that has as many of that kind before it.
+ * About 10 the author of the patch writes the label into the block that the jump stands in, since no jump leaves its block. About 11 the
+ * author writes a number with fewer digits, makes two of a Push or of a body, or jumps by way of another label. About 12 the caller lends
+ * as many bytes as the place says.
+ *
  * What is returned and written is proved, for every argument: the contracts in crates/pcode_c/src/lib.rt, over the definitions of
- * crates/c_tokens/specs and crates/c_entries/specs. Stack and time are not.
+ * crates/c_tokens/specs, crates/c_entries/specs and crates/c_export/specs. Stack and time are not.
  */
 #ifndef PCODE_H
 #define PCODE_H
@@ -61,25 +72,29 @@ extern "C" {
 
 /* ---- constants */
 
-#define PCODE_VERSION "2.0"
+#define PCODE_VERSION "2.1"
 #define PCODE_VERSION_MAJOR 2
-#define PCODE_VERSION_MINOR 0
+#define PCODE_VERSION_MINOR 1
 
-#define PCODE_MOST_BYTES 65536 /* of a text: a longer one is refused */
-#define PCODE_MOST_BLOCKS 64   /* that may be open at once */
-#define PCODE_MOST_NAME 15     /* bytes of an action's name */
-#define PCODE_LEVEL_WORDS 2    /* of a level in its table; each other entry has one word */
+#define PCODE_MOST_BYTES 65536  /* of a text: a longer one is refused */
+#define PCODE_MOST_MOVIE 655360 /* bytes that a text exports to */
+#define PCODE_MOST_BLOCKS 64    /* that may be open at once */
+#define PCODE_MOST_NAME 15      /* bytes of an action's name */
+#define PCODE_LEVEL_WORDS 2     /* of a level in its table; each other entry has one word */
 
 /* Bytes of stack, measured for the worst texts that were found, and some ten percent more; compare/stack holds the calls to them. The
  * number behind a name is the length of text, in bytes, up to which it holds; without one it holds for any text. */
 #define PCODE_READ_STACK_4096 196000
 #define PCODE_READ_STACK_16384 1250000
 #define PCODE_READ_STACK 2110000
+#define PCODE_EXPORT_STACK_1024 336000
+#define PCODE_EXPORT_STACK_4096 463000
+#define PCODE_EXPORT_STACK 4270000
 #define PCODE_LEX_STACK_1024 11500
 #define PCODE_LEX_STACK_4096 84000
 #define PCODE_LEX_STACK 590000
 #define PCODE_OTHER_STACK 1900
-#define PCODE_THREAD_STACK 4194304 /* for a thread that makes any of these calls: the most of them, and room for its own */
+#define PCODE_THREAD_STACK 6291456 /* for a thread that makes any of these calls: the most of them, and room for its own */
 
 /* The kinds of tokens, and the parts of a kind's number (out[0] of pcode_token). */
 #define PCODE_KIND(number) ((number) / 65536)    /* one of PCODE_KIND_NEWLINE to PCODE_KIND_UNKNOWN */
@@ -117,7 +132,10 @@ enum {
     PCODE_REFUSED_NO_VALUE = 6,        /* of pcode_value */
     PCODE_REFUSED_TOO_DEEP = 7,
     PCODE_REFUSED_TABLE_SHORT = 8,
-    PCODE_REFUSED_UNDETERMINED = 9
+    PCODE_REFUSED_UNDETERMINED = 9,
+    PCODE_REFUSED_NO_LABEL = 10,
+    PCODE_REFUSED_UNCODABLE = 11,
+    PCODE_REFUSED_OUTPUT_SHORT = 12
 };
 
 /* The cases of a value (out[0] of pcode_value). */
@@ -165,6 +183,17 @@ uint64_t pcode_lex(const uint8_t *text, size_t text_len, uint64_t *table, size_t
 uint64_t pcode_read(const uint8_t *text, size_t text_len, uint64_t *tokens, size_t tokens_len, uint64_t *actions,
                     size_t actions_len, uint64_t *operands, size_t operands_len, uint64_t *levels, size_t levels_len,
                     uint64_t *labels, size_t labels_len, uint64_t out[5]);
+
+/* Export: the movie's own bytes of a text, SWF19's action records, at the front of out; what stands behind them stays. The tables are
+ * filled as by pcode_read. told[0] to told[4]: its counts. told[5]: how many bytes were written, at most ten for each byte of the text, so
+ * that an output of 10 * text_len bytes is never too short, nor one of PCODE_MOST_MOVIE for any text.
+ * No end record is added: whoever puts the bytes into a tag closes it with a zero byte, unless the last action is an End, which is one.
+ * as_printed: the order of GetUrl2's bits. false, for a movie that is to be played: LoadVariables is 0x80, LoadTarget 0x40, and the method
+ * has the two lowest bits. true: as SWF19 prints them, mirrored, LoadVariables 0x01, LoadTarget 0x02, and the method in the two highest;
+ * players take them for something else. */
+uint64_t pcode_export(const uint8_t *text, size_t text_len, uint64_t *tokens, size_t tokens_len, uint64_t *actions,
+                      size_t actions_len, uint64_t *operands, size_t operands_len, uint64_t *levels, size_t levels_len,
+                      uint64_t *labels, size_t labels_len, bool as_printed, uint8_t *out, size_t out_len, uint64_t told[6]);
 
 /* ---- the entry of a table's word, a level's of its two. These refuse nothing: a word that no table held gives some entry, whose
  * numbers may lie anywhere.
