@@ -1,4 +1,5 @@
-//! Speed: reading and lexing here and by the oracle, by turns, on ordinary patches and on texts that are all labels.
+//! Speed: reading and lexing here and by the oracle, by turns, on ordinary patches and on texts that are all labels; and export beside
+//! reading.
 
 use std::collections::HashSet;
 use std::hint::black_box;
@@ -11,6 +12,8 @@ const ROUNDS: usize = 5;
 const SIZE: usize = 65_536;
 /// What a byte of a text of labels may take, in times of what a byte of an ordinary patch takes.
 const LIMIT: f64 = 3.0;
+/// What export may take, in times of what reading takes.
+const EXPORT_LIMIT: f64 = 2.5;
 
 /// MB/s: the best and the median of some timings.
 #[derive(Clone, Copy)]
@@ -85,13 +88,29 @@ impl Subject {
         Subject { what, text, tables, counts: [0; 5], reading: Sides::default(), lexing: Sides::default() }
     }
 
-    fn ours(&mut self, seconds: f64) {
+    fn read(&mut self, seconds: f64) -> Speed {
         let Subject { text, tables, counts, .. } = self;
-        self.reading.ours.push(time(text.len(), seconds, || {
+        time(text.len(), seconds, || {
             let lent = tables.each_mut().map(|t| &mut t[..]);
             assert_eq!(ffi::read(black_box(text), lent, counts), 0, "the text is read");
-        }));
-        self.lexing.ours.push(lexing(text, &mut tables[0], seconds));
+        })
+    }
+
+    /// Export into a lent output, and how many bytes it has written.
+    fn export(&mut self, out: &mut [u8], seconds: f64) -> (Speed, u64) {
+        let Subject { text, tables, .. } = self;
+        let mut told = [0; 6];
+        let speed = time(text.len(), seconds, || {
+            let lent = tables.each_mut().map(|t| &mut t[..]);
+            assert_eq!(ffi::export(black_box(text), lent, false, out, &mut told), 0, "the text is exported");
+        });
+        (speed, told[5])
+    }
+
+    fn ours(&mut self, seconds: f64) {
+        let reading = self.read(seconds);
+        self.reading.ours.push(reading);
+        self.lexing.ours.push(lexing(&self.text, &mut self.tables[0], seconds));
     }
 
     /// The oracle's own timings. It must read the text too, with as many tokens.
@@ -210,6 +229,39 @@ pub fn bench(oracle: &str, seconds: f64) -> u64 {
     let verdict = if most <= LIMIT { "within" } else { "OVER" };
     println!("A byte of a text of labels is read in at most {most:.2} times an ordinary patch's: {verdict} the limit of {LIMIT}.");
     (most > LIMIT) as u64
+}
+
+/// Export of a text and reading alone, by turns, each first in every other round: the one's time in times of the other's, in a round.
+fn export_of(mut s: Subject, seconds: f64) -> f64 {
+    let mut out = vec![0; 10 * s.text.len()];
+    let (mut sides, mut bytes) = (Sides::default(), 0);
+    for round in 0..ROUNDS {
+        if round % 2 == 0 {
+            sides.ours.push(s.read(seconds));
+        }
+        let (export, written) = s.export(&mut out, seconds);
+        sides.theirs.push(export);
+        bytes = written;
+        if round % 2 == 1 {
+            sides.ours.push(s.read(seconds));
+        }
+    }
+    let (read, export) = (Speed::of(&sides.ours).ns_per_byte(), Speed::of(&sides.theirs).ns_per_byte());
+    println!(
+        "{:<21} {:>5} bytes to {bytes:>5}: reading {read:.2} ns a byte, export {export:.2}; times reading, best {:.2}, a round {:.2}",
+        s.what, s.text.len(), export / read, sides.by_round()
+    );
+    sides.by_round()
+}
+
+/// Export beside reading alone on ordinary patches; 1 where it takes more than its limit.
+pub fn export(seconds: f64) -> u64 {
+    let sizes = [("ordinary patch, 1 KB", 1024), ("ordinary patch, 4 KB", 4096), ("ordinary patch, 64 KB", SIZE)];
+    let texts = sizes.map(|(what, size)| Subject::new(what, texts::ordinary_within(size, 1, 50)));
+    let most = texts.into_iter().map(|s| export_of(s, seconds)).fold(0.0, f64::max);
+    let verdict = if most <= EXPORT_LIMIT { "within" } else { "OVER" };
+    println!("Export takes at most {most:.2} times reading alone: {verdict} the limit of {EXPORT_LIMIT}.");
+    (most > EXPORT_LIMIT) as u64
 }
 
 /// Lexing alone, on one text.

@@ -17,6 +17,7 @@
 //!   compare plain COUNT SEED                      names of actions, lines and columns, against plain Rust; no oracle
 //!   compare lexing FILE SECONDS                   lexing speed on one text
 //!   compare against-index SECONDS                 speed on labels that are made against the index
+//!   compare export-speed SECONDS                  speed of export beside that of reading alone, on ordinary patches; no oracle
 //!   compare ORACLE bench SECONDS                  speed of both sides on ordinary patches and on labels; see compare/bench
 
 mod bench;
@@ -297,6 +298,7 @@ fn main() {
             bench::against_index(seconds.parse().expect("seconds"));
             0
         }
+        ["export-speed", seconds] => bench::export(seconds.parse().expect("seconds")),
         ["ordinary", file, size, seed] => {
             let text = texts::ordinary(size.parse().expect("a size"), seed.parse().expect("a seed"));
             std::fs::write(file, text).expect("the file");

@@ -21,6 +21,7 @@ static const uint64_t PAINT = 0xA5C3965A3C69F00D;
 static uint8_t text[LONGEST];
 static size_t length;
 static uint64_t tokens[PLACES], actions[PLACES], operands[PLACES], levels[PLACES], labels[PLACES];
+static uint8_t movie[PCODE_MOST_MOVIE];
 static uint64_t answer, out[6];
 static int32_t integer[1];
 static int64_t height[1];
@@ -65,21 +66,42 @@ static void one_label(size_t size)
 }
 
 /* An underscore and a number to the base 64: short, and no word of the language. */
-static void distinct_labels(size_t size)
+static const char *name_of(unsigned n)
 {
     static const char letters[] = "0123456789abcdefghijklmnopqrstuvwxyzABCDEFGHIJKLMNOPQRSTUVWXYZ_$";
-    char label[16] = {0};
-    for (unsigned i = 0;; i++) {
-        size_t at = sizeof label - 2;
-        unsigned n = i;
-        label[at] = ':';
-        do
-            label[--at] = letters[n % 64];
-        while ((n /= 64) != 0);
-        label[--at] = '_';
-        if (!add(size, label + at))
-            break;
-    }
+    static char name[16];
+    size_t at = sizeof name - 1;
+    do
+        name[--at] = letters[n % 64];
+    while ((n /= 64) != 0);
+    name[--at] = '_';
+    return name + at;
+}
+
+static void distinct_labels(size_t size)
+{
+    char label[16];
+    unsigned i = 0;
+    do
+        snprintf(label, sizeof label, "%s:", name_of(i));
+    while (i++, add(size, label));
+}
+
+/* Labels and actions: each jump to its own label, so that none goes too far. */
+static void jumps(size_t size)
+{
+    char line[48];
+    unsigned i = 0;
+    do
+        snprintf(line, sizeof line, "%s:Jump %s\n", name_of(i), name_of(i));
+    while (i++, add(size, line));
+}
+
+/* As many actions as can be. */
+static void many_actions(size_t size)
+{
+    while (add(size, "Or\n"))
+        ;
 }
 
 static void many_levels(size_t size)
@@ -136,6 +158,13 @@ static void refused_labels(size_t size)
     add(size, "\n,");
 }
 
+/* Refused with 10 at its last action, once all others have been looked at. */
+static void jump_to_nowhere(size_t size)
+{
+    jumps(size - strlen("Jump a\n"));
+    add(size, "Jump a\n");
+}
+
 /* ---- the calls; a small one is made with several arguments */
 
 static void call_nothing(void)
@@ -150,6 +179,22 @@ static void call_lex(void)
 static void call_read(void)
 {
     answer = pcode_read(text, length, tokens, PLACES, actions, PLACES, operands, PLACES, levels, PLACES, labels, PLACES, out);
+}
+
+static void export_into(size_t bytes)
+{
+    answer = pcode_export(text, length, tokens, PLACES, actions, PLACES, operands, PLACES, levels, PLACES, labels, PLACES, false, movie,
+                          bytes, out);
+}
+
+static void call_export(void)
+{
+    export_into(sizeof movie);
+}
+
+static void call_export_short(void)
+{
+    export_into(0);
 }
 
 /* Words that differ in every part of an entry. */
@@ -254,6 +299,22 @@ static const struct on_text {
     {"pcode_read", call_read, "refused lines", refused_lines, 6, {88000, 88000, 88000, 376000, 1250000}},
     {"pcode_read", call_read, "refused Push 1,1,..", refused_values, 6, {88000, 88000, 88000, 376000, 1250000}},
     {"pcode_read", call_read, "refused labels", refused_labels, 6, {88000, 88000, 88000, 376000, 1250000}},
+    {"pcode_export", call_export, "ordinary lines", ordinary, 0, {230000, 230000, 356000, 2540000, 3610000}},
+    {"pcode_export", call_export, "many actions", many_actions, 0, {230000, 230000, 356000, 3610000, 3610000}},
+    {"pcode_export", call_export, "jumps", jumps, 0, {230000, 230000, 356000, 2650000, PCODE_EXPORT_STACK}},
+    {"pcode_export", call_export, "one label", one_label, 0,
+     {230000, PCODE_EXPORT_STACK_1024, PCODE_EXPORT_STACK_4096, 3410000, PCODE_EXPORT_STACK}},
+    {"pcode_export", call_export, "distinct labels", distinct_labels, 0,
+     {230000, 230000, PCODE_EXPORT_STACK_4096, 3610000, PCODE_EXPORT_STACK}},
+    {"pcode_export", call_export, "nested labels", nested_labels, 0,
+     {0, 254000, PCODE_EXPORT_STACK_4096, 3640000, PCODE_EXPORT_STACK}},
+    {"pcode_export", call_export, "many levels", many_levels, 0, {230000, 230000, 356000, 3610000, 3610000}},
+    {"pcode_export", call_export, "64 nested With", nested_with, 0, {0, 254000, 380000, 2570000, 3430000}},
+    {"pcode_export", call_export, "63 nested Try", nested_try, 0, {0, 0, 380000, 2570000, 3430000}},
+    {"pcode_export", call_export, "refused lines", refused_lines, 6, {230000, 230000, 356000, 2540000, 3410000}},
+    {"pcode_export", call_export, "jump to nowhere", jump_to_nowhere, 10, {230000, 230000, 356000, 2650000, PCODE_EXPORT_STACK}},
+    {"pcode_export", call_export, "refused Push 1,1,..", values, 11, {0, 0, 0, 0, 3410000}},
+    {"pcode_export", call_export_short, "output too short", jumps, 12, {230000, 230000, 356000, 2650000, PCODE_EXPORT_STACK}},
     {"pcode_lex", call_lex, "ordinary lines", ordinary, 0, LEX_LIMITS},
     {"pcode_lex", call_lex, "Push 1,1,..", values, 0, LEX_LIMITS},
     {"pcode_lex", call_lex, "distinct labels", distinct_labels, 0, LEX_LIMITS},

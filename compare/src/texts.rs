@@ -328,9 +328,14 @@ pub fn grammar(count: u64, seed: u64) -> impl Iterator<Item = Vec<u8>> {
 
 /// An ordinary patch of about that many bytes: labels, pushes, branches and plain actions, a line each.
 pub fn ordinary(size: usize, seed: u64) -> Vec<u8> {
+    ordinary_within(size, seed, usize::MAX)
+}
+
+/// The same where a branch goes to one of the last so many labels: a movie has room for a jump over 32,767 bytes, and no more.
+pub fn ordinary_within(size: usize, seed: u64, reach: usize) -> Vec<u8> {
     let mut r = Random::new(seed);
     let mut s = String::new();
-    let mut label = 0;
+    let mut label: usize = 0;
     while s.len() + 40 < size {
         match r.below(8) {
             0 => {
@@ -339,7 +344,10 @@ pub fn ordinary(size: usize, seed: u64) -> Vec<u8> {
             }
             1 => s.push_str(&format!("Push \"pallet{}\", {}, register{}\n", r.below(50), r.below(1000), r.below(4))),
             2 => s.push_str(&format!("Push constant{}, {}.5, true\n", r.below(300), r.below(90))),
-            3 if label > 0 => s.push_str(&format!("If loc{:04x}\n", 1 + r.below(label))),
+            3 if label > 0 => {
+                let passed = label.saturating_sub(reach);
+                s.push_str(&format!("If loc{:04x}\n", passed + 1 + r.below(label - passed)));
+            }
             4 => s.push_str("GetMember\nCallMethod\nPop\n"),
             5 => s.push_str("    Push \"_root\"\n    GetVariable\n"),
             _ => s.push_str(r.pick(&["Add2\n", "SetMember\n", "Not\n", "StoreRegister 1\n", "Equals2\n", "Trace\n", "PushDuplicate\n"])),
