@@ -8,7 +8,7 @@
 
 enum { PLACES = PCODE_MOST_BYTES + 2 }; /* words: the most that the table of levels takes */
 static char text[PLACES];
-static uint64_t tokens[PLACES], actions[PLACES], operands[PLACES], levels[PLACES], labels[PLACES], marks[PLACES], out[5], told[6];
+static uint64_t tokens[PLACES], actions[PLACES], operands[PLACES], levels[PLACES], labels[PLACES], out[5], told[6];
 static uint8_t movie[PCODE_MOST_MOVIE];
 static int wrong = 0;
 
@@ -131,26 +131,6 @@ static void check_levels(void)
     same("for the levels", out[0], 2);
 }
 
-/* A label that an If names, one written again and named, one that only a jump of the body names, and the body's own. */
-static void check_marks(void)
-{
-    static const char s[] = "a:\nb:\nc:\nb:\nIf a\nJump b\nWith{\nd:\nJump c\n}\n";
-    static const uint64_t expected[] = {PCODE_MARK_FINE, PCODE_MARK_TWICE, PCODE_MARK_UNUSED, PCODE_MARK_UNUSED}, twice[] = {0, 1, 0, 0};
-    uint64_t label[4];
-    size_t places[] = {4, 3};
-    for (size_t i = 0; i < 2; i++) {
-        uint64_t refusal = pcode_mark_labels((const uint8_t *)s, strlen(s), tokens, PLACES, actions, PLACES, operands, PLACES, levels,
-                                             PLACES, labels, PLACES, marks, places[i], out);
-        same("places for marks", refusal, i == 0 ? 0 : PCODE_REFUSED_TABLE_SHORT);
-        same("labels, or the mark table", out[i == 0 ? 4 : 0], 4);
-    }
-    for (size_t i = 0; i < 4; i++) {
-        pcode_label(labels[i], label);
-        same("a label's mark", marks[i], expected[i]);
-        same("written more than once", label[3], twice[i]);
-    }
-}
-
 /* Strings without their closing quote: two in the body, one in the top level. */
 static void check_unclosed(void)
 {
@@ -203,7 +183,6 @@ int main(void)
     check_tokens();
     check_refusals();
     check_levels();
-    check_marks();
     check_unclosed();
     check_export();
     check_names();

@@ -31,7 +31,7 @@ static int failed(const char *what)
 static void print_labels(const uint8_t *text, const uint64_t *tokens, const uint64_t *labels, uint64_t count)
 {
     for (uint64_t i = 0; i < count; i++) {
-        uint64_t label[4]; /* its level, the token that names it, its position, and whether it was written more than once */
+        uint64_t label[3]; /* its level, the token that names it, its position */
         uint64_t token[5]; /* kind, span, and in token[3] and token[4] the bounds of the raw text */
         pcode_label(labels[i], label);
         pcode_token(tokens[label[1]], token);

@@ -111,7 +111,7 @@ mod pcode {
     }
 
     pub fn label(word: u64) -> Label {
-        let mut out = [0u64; 4];
+        let mut out = [0u64; 3];
         unsafe { c::pcode_label(word, out.as_mut_ptr()) };
         Label { level: out[0], token: out[1] as usize, position: out[2] }
     }

@@ -1,7 +1,7 @@
 /* The p-code reader for C. Link libpcode_c.a (`rt staticlib pcode_c`) and the C library, nothing else.
  *
  *     size_t n = text_len + 2;     // tables of as many words hold any reading of the text
- *     uint64_t out[5], label[4], token[5];
+ *     uint64_t out[5], label[3], token[5];
  *     uint64_t refusal = pcode_read(text, text_len, tokens, n, actions, n, operands, n, levels, n, labels, n, out);
  *     if (refusal != 0)
  *         printf("refused %llu at %llu\n", (unsigned long long)refusal, (unsigned long long)out[0]);
@@ -24,8 +24,8 @@
  * (PCODE_THREAD_STACK). A main thread usually has 8,388,608.
  *
  * A call that can refuse returns 0, or the number of the refusal. A refusal changes no table and no output. Its place goes to out[0] of
- * pcode_lex, pcode_read and pcode_mark_labels, the rest of out staying as it was, and to told[0] of pcode_export likewise; pcode_delta and
- * pcode_value then write nothing.
+ * pcode_lex and pcode_read, the rest of out staying as it was, and to told[0] of pcode_export likewise; pcode_delta and pcode_value then
+ * write nothing.
  *   1  a text over 65,536 bytes, or a value count over 65,536 given to pcode_delta; place 0
  *   2  not UTF-8 as Rust's str requires; the place is the count of leading valid bytes
  *   3  an opening quote directly before a line feed or the end; the place is the quote's byte
@@ -34,16 +34,15 @@
  *   6  reading: not in the grammar; the place is the first token that no grammatical list has after those before it, or the
  *      number of tokens where the text merely ends early. pcode_value: a token without a value; place 0
  *   7  a block opens while 64 are open; the place is the token of its brace
- *   8  another table with too few places; the place is 0 for actions, 1 operands, 2 levels, 3 labels, 4 marks: the lowest that is too
- *      short
+ *   8  another table with too few places; the place is 0 for actions, 1 operands, 2 levels, 3 labels: the lowest that is too short
  *   9  an action whose delta is undetermined; place 0
  *  10  an If or Jump whose label is not in its level; the place is the number of that action
  *  11  an action that cannot be coded: a number that is a long (pcode_value), a zero byte in a string, a GetUrl2 method above 3, operands
  *      or a body of over 65,535 bytes, or a jump over 32,767 bytes ahead or 32,768 back; the place is the number of that action
  *  12  an output with too few bytes; the place is how many are needed
  * They are tried in this order, but of 3 and 4, of 6 and 7, and of 10 and 11 the earlier place wins; how long a body is and how far a
- * jump goes is asked only where no action has another fault. pcode_lex gives 1 to 5, pcode_read and pcode_mark_labels 1 to 8,
- * pcode_export 1 to 8 and 10 to 12, pcode_delta 1 and 9, pcode_value 1 and 6.
+ * jump goes is asked only where no action has another fault. pcode_lex gives 1 to 5, pcode_read 1 to 8, pcode_export 1 to 8 and 10 to 12,
+ * pcode_delta 1 and 9, pcode_value 1 and 6.
  *
  * So the place of 2, 3 and 4 is a byte of the text, and that of 6 and 7 an entry of the token table, which pcode_read left as it was.
  * pcode_lex gives the tokens, and they the byte; a place that is their number is the text's end:
@@ -58,7 +57,7 @@
  * as many bytes as the place says.
  *
  * What is returned and written is proved, for every argument: the contracts in crates/pcode_c/src/lib.rt, over the definitions of
- * crates/c_tokens/specs, crates/c_entries/specs, crates/c_export/specs and crates/label_marks/specs. Stack and time are not.
+ * crates/c_tokens/specs, crates/c_entries/specs and crates/c_export/specs. Stack and time are not.
  */
 #ifndef PCODE_H
 #define PCODE_H
@@ -73,9 +72,9 @@ extern "C" {
 
 /* ---- constants */
 
-#define PCODE_VERSION "3.0"
-#define PCODE_VERSION_MAJOR 3
-#define PCODE_VERSION_MINOR 0
+#define PCODE_VERSION "2.1"
+#define PCODE_VERSION_MAJOR 2
+#define PCODE_VERSION_MINOR 1
 
 #define PCODE_MOST_BYTES 65536  /* of a text: a longer one is refused */
 #define PCODE_MOST_MOVIE 655360 /* bytes that a text exports to */
@@ -91,8 +90,6 @@ extern "C" {
 #define PCODE_EXPORT_STACK_1024 336000
 #define PCODE_EXPORT_STACK_4096 463000
 #define PCODE_EXPORT_STACK 4270000
-#define PCODE_MARK_STACK_4096 248000
-#define PCODE_MARK_STACK 4160000
 #define PCODE_LEX_STACK_1024 11500
 #define PCODE_LEX_STACK_4096 84000
 #define PCODE_LEX_STACK 590000
@@ -168,13 +165,6 @@ enum {
     PCODE_NET_UNDETERMINED = 1
 };
 
-/* The marks of labels, as pcode_mark_labels writes them. */
-enum {
-    PCODE_MARK_FINE = 0,
-    PCODE_MARK_UNUSED = 1,
-    PCODE_MARK_TWICE = 2
-};
-
 /* ---- a text into tables, a 64-bit word for each entry, two for a level */
 
 /* Lexing alone: all tokens of a text at the front of the table; what stands behind them stays. out[0]: their number, at most text_len, so
@@ -205,14 +195,6 @@ uint64_t pcode_export(const uint8_t *text, size_t text_len, uint64_t *tokens, si
                       size_t actions_len, uint64_t *operands, size_t operands_len, uint64_t *levels, size_t levels_len,
                       uint64_t *labels, size_t labels_len, bool as_printed, uint8_t *out, size_t out_len, uint64_t told[6]);
 
-/* Label check: reads a text as pcode_read does, out as there, and puts a mark for each label at the front of marks, in the order of the label
- * table; what stands behind them stays. A mark is PCODE_MARK_UNUSED where no If or Jump of the label's own level names it, else
- * PCODE_MARK_TWICE where it was written more than once in its level, else PCODE_MARK_FINE. A mark table as long as the label table is never
- * too short where that is not. */
-uint64_t pcode_mark_labels(const uint8_t *text, size_t text_len, uint64_t *tokens, size_t tokens_len, uint64_t *actions,
-                           size_t actions_len, uint64_t *operands, size_t operands_len, uint64_t *levels, size_t levels_len,
-                           uint64_t *labels, size_t labels_len, uint64_t *marks, size_t marks_len, uint64_t out[5]);
-
 /* ---- the entry of a table's word, a level's of its two. These refuse nothing: a word that no table held gives some entry, whose
  * numbers may lie anywhere.
  * The ranges are those of a word that pcode_read wrote; `tokens`, `actions`, .. stand for its counts. */
@@ -242,9 +224,8 @@ void pcode_operand(uint64_t word, uint64_t out[3]);
 void pcode_level(const uint64_t words[2], uint64_t out[6], int64_t height[1]);
 
 /* A label. out[0]: its level, < levels. out[1]: the token that first names it, < tokens. out[2]: the position it was given last: the number
- * of actions before it in its level, at most that level's action count. out[3]: 1 where it was written more than once in its level, else
- * 0. */
-void pcode_label(uint64_t word, uint64_t out[4]);
+ * of actions before it in its level, at most that level's action count. */
+void pcode_label(uint64_t word, uint64_t out[3]);
 
 /* ---- tokens and actions by themselves */
 

@@ -1,5 +1,5 @@
-//! Speed: reading and lexing here and by the oracle, by turns, on ordinary patches and on texts that are all labels; export and the label
-//! check beside reading.
+//! Speed: reading and lexing here and by the oracle, by turns, on ordinary patches and on texts that are all labels; and export beside
+//! reading.
 
 use std::collections::HashSet;
 use std::hint::black_box;
@@ -105,15 +105,6 @@ impl Subject {
             assert_eq!(ffi::export(black_box(text), lent, false, out, &mut told), 0, "the text is exported");
         });
         (speed, told[5])
-    }
-
-    /// The label check into a lent mark table.
-    fn mark(&mut self, marks: &mut [u64], seconds: f64) -> Speed {
-        let Subject { text, tables, counts, .. } = self;
-        time(text.len(), seconds, || {
-            let lent = tables.each_mut().map(|t| &mut t[..]);
-            assert_eq!(ffi::mark_labels(black_box(text), lent, marks, counts), 0, "the labels are marked");
-        })
     }
 
     fn ours(&mut self, seconds: f64) {
@@ -271,42 +262,6 @@ pub fn export(seconds: f64) -> u64 {
     let verdict = if most <= EXPORT_LIMIT { "within" } else { "OVER" };
     println!("Export takes at most {most:.2} times reading alone: {verdict} the limit of {EXPORT_LIMIT}.");
     (most > EXPORT_LIMIT) as u64
-}
-
-/// As many pieces, each with its number, as fit the largest text.
-fn pieces(piece: impl Fn(usize) -> String) -> Vec<u8> {
-    let mut text = Vec::new();
-    for piece in (0..).map(piece) {
-        if text.len() + piece.len() > SIZE {
-            return text;
-        }
-        text.extend(piece.bytes());
-    }
-    unreachable!()
-}
-
-/// The label check beside reading alone; 1 where a byte of a text of labels and jumps takes more than the limit of an ordinary patch's byte.
-pub fn marks(seconds: f64) -> u64 {
-    let ordinary = [("ordinary patch, 1 KB", 1024), ("ordinary patch, 4 KB", 4096), ("ordinary patch, 64 KB", SIZE)];
-    let mut texts: Vec<Subject> = ordinary.map(|(what, size)| Subject::new(what, texts::ordinary_within(size, 1, 50))).into();
-    texts.push(Subject::new("labels and jumps", pieces(|i| format!("_{i:x}:Jump _{i:x}\n"))));
-    texts.push(Subject::new("labels, then jumps", pieces(|i| if i < 2600 { format!("_{i:x}:\n") } else { format!("If _{:x}\n", i % 2600) })));
-    texts.push(Subject::new("jumps to one label", pieces(|i| if i == 0 { "s:".into() } else { "If s\n".into() })));
-    texts.push(Subject::new("labels alone", pieces(|i| format!("_{i:x}:"))));
-    let mut marks = vec![0; SIZE];
-    let (mut byte, mut most) = (0.0, 0.0f64);
-    for mut s in texts {
-        let read = s.read(seconds).ns_per_byte();
-        let mark = s.mark(&mut marks, seconds).ns_per_byte();
-        if s.what.starts_with("ordinary") {
-            byte = mark;
-        }
-        most = most.max(mark / byte);
-        println!("{:<21} {:>5} bytes: reading {read:.2} ns a byte, label check {mark:.2}, {:.2} times reading", s.what, s.text.len(), mark / read);
-    }
-    let verdict = if most <= LIMIT { "within" } else { "OVER" };
-    println!("A byte of labels and jumps is checked in at most {most:.2} times an ordinary patch's: {verdict} the limit of {LIMIT}.");
-    (most > LIMIT) as u64
 }
 
 /// Lexing alone, on one text.

@@ -17,11 +17,6 @@ mod c {
             operands: *mut u64, operands_len: usize, levels: *mut u64, levels_len: usize, labels: *mut u64, labels_len: usize,
             as_printed: bool, out: *mut u8, out_len: usize, told: *mut u64,
         ) -> u64;
-        pub fn pcode_mark_labels(
-            text: *const u8, text_len: usize, tokens: *mut u64, tokens_len: usize, actions: *mut u64, actions_len: usize,
-            operands: *mut u64, operands_len: usize, levels: *mut u64, levels_len: usize, labels: *mut u64, labels_len: usize,
-            marks: *mut u64, marks_len: usize, out: *mut u64,
-        ) -> u64;
         pub fn pcode_action(word: u64, out: *mut u64);
         pub fn pcode_operand(word: u64, out: *mut u64);
         pub fn pcode_level(words: *const u64, out: *mut u64, height: *mut i64);
@@ -109,18 +104,6 @@ pub fn export(text: &[u8], tables: [&mut [u64]; 5], as_printed: bool, out: &mut 
     }
 }
 
-/// The label check over lent tables into a lent mark table: the refusal's number, or 0.
-pub fn mark_labels(text: &[u8], tables: [&mut [u64]; 5], marks: &mut [u64], out: &mut [u64; 5]) -> u64 {
-    let [tokens, actions, operands, levels, labels] = tables;
-    unsafe {
-        c::pcode_mark_labels(
-            text.as_ptr(), text.len(), tokens.as_mut_ptr(), tokens.len(), actions.as_mut_ptr(), actions.len(),
-            operands.as_mut_ptr(), operands.len(), levels.as_mut_ptr(), levels.len(), labels.as_mut_ptr(), labels.len(),
-            marks.as_mut_ptr(), marks.len(), out.as_mut_ptr(),
-        )
-    }
-}
-
 pub struct Action {
     pub name: usize,
     pub level: usize,
@@ -161,7 +144,7 @@ pub fn level(words: &[u64; 2]) -> Level {
 
 /// The level, the token and the position of a label.
 pub fn label(word: u64) -> (usize, usize, usize) {
-    let mut out = [0u64; 4];
+    let mut out = [0u64; 3];
     unsafe { c::pcode_label(word, out.as_mut_ptr()) };
     (out[0] as usize, out[1] as usize, out[2] as usize)
 }

@@ -18,7 +18,6 @@
 //!   compare lexing FILE SECONDS                   lexing speed on one text
 //!   compare against-index SECONDS                 speed on labels that are made against the index
 //!   compare export-speed SECONDS                  speed of export beside that of reading alone, on ordinary patches; no oracle
-//!   compare marks-speed SECONDS                   speed of the label check beside that of reading alone; no oracle
 //!   compare ORACLE bench SECONDS                  speed of both sides on ordinary patches and on labels; see compare/bench
 
 mod bench;
@@ -300,7 +299,6 @@ fn main() {
             0
         }
         ["export-speed", seconds] => bench::export(seconds.parse().expect("seconds")),
-        ["marks-speed", seconds] => bench::marks(seconds.parse().expect("seconds")),
         ["ordinary", file, size, seed] => {
             let text = texts::ordinary(size.parse().expect("a size"), seed.parse().expect("a seed"));
             std::fs::write(file, text).expect("the file");

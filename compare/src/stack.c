@@ -20,7 +20,7 @@ static const uint64_t PAINT = 0xA5C3965A3C69F00D;
 /* What the calls are given and write is not on the stack. */
 static uint8_t text[LONGEST];
 static size_t length;
-static uint64_t tokens[PLACES], actions[PLACES], operands[PLACES], levels[PLACES], labels[PLACES], marks[PLACES];
+static uint64_t tokens[PLACES], actions[PLACES], operands[PLACES], levels[PLACES], labels[PLACES];
 static uint8_t movie[PCODE_MOST_MOVIE];
 static uint64_t answer, out[6];
 static int32_t integer[1];
@@ -197,21 +197,6 @@ static void call_export_short(void)
     export_into(0);
 }
 
-static void mark_into(size_t marks_len)
-{
-    answer = pcode_mark_labels(text, length, tokens, PLACES, actions, PLACES, operands, PLACES, levels, PLACES, labels, PLACES, marks, marks_len, out);
-}
-
-static void call_marks(void)
-{
-    mark_into(PLACES);
-}
-
-static void call_marks_short(void)
-{
-    mark_into(0);
-}
-
 /* Words that differ in every part of an entry. */
 static uint64_t word(unsigned i)
 {
@@ -330,16 +315,6 @@ static const struct on_text {
     {"pcode_export", call_export, "jump to nowhere", jump_to_nowhere, 10, {230000, 230000, 356000, 2650000, PCODE_EXPORT_STACK}},
     {"pcode_export", call_export, "refused Push 1,1,..", values, 11, {0, 0, 0, 0, 3410000}},
     {"pcode_export", call_export_short, "output too short", jumps, 12, {230000, 230000, 356000, 2650000, PCODE_EXPORT_STACK}},
-    {"pcode_mark_labels", call_marks, "ordinary lines", ordinary, 0, {121000, 121000, 121000, 410000, 1390000}},
-    {"pcode_mark_labels", call_marks, "jumps", jumps, 0, {121000, 121000, 121000, 520000, 2140000}},
-    {"pcode_mark_labels", call_marks, "one label", one_label, 0,
-     {121000, PCODE_MARK_STACK_4096, PCODE_MARK_STACK_4096, 1280000, 2140000}},
-    {"pcode_mark_labels", call_marks, "distinct labels", distinct_labels, 0,
-     {121000, 121000, PCODE_MARK_STACK_4096, 1280000, 2140000}},
-    {"pcode_mark_labels", call_marks, "nested labels", nested_labels, 0, {0, 145000, PCODE_MARK_STACK_4096, 520000, 2140000}},
-    {"pcode_mark_labels", call_marks, "refused labels", refused_labels, 6, {121000, 121000, 121000, 410000, 1280000}},
-    {"pcode_mark_labels", call_marks_short, "no places for marks", jumps, 8,
-     {121000, 121000, PCODE_MARK_STACK_4096, 2540000, PCODE_MARK_STACK}},
     {"pcode_lex", call_lex, "ordinary lines", ordinary, 0, LEX_LIMITS},
     {"pcode_lex", call_lex, "Push 1,1,..", values, 0, LEX_LIMITS},
     {"pcode_lex", call_lex, "distinct labels", distinct_labels, 0, LEX_LIMITS},

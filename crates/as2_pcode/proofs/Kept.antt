@@ -110,17 +110,17 @@ operands-low (l ∷ ls) a s h =
 -- ---- labels
 
 abbrev pub LowLabel : R.Label → Type 0
-LowLabel l = IsLow l.name × Small17 l.position
+LowLabel l = IsLow l.name × Small l.position
 
 place-low : (l : R.Label) (ks : List R.Label) → LowLabel l → Every LowLabel ks → Every LowLabel (place l ks)
 place-low l [] h g = (h, tt)
 place-low l (k ∷ ks) h g =
     either (Every LowLabel) (same_name (raw l.name) (raw k.name)) _ _ ((g.0.0, h.1), g.1) (g.0, place-low l ks h g.1)
 
-own-low : (x : Items) (ℓ p : ℕ) (ks : List R.Label) → AllOf IsLow x → Small17 (p + own_actions x) → Every LowLabel ks → Every LowLabel (own_labels ℓ p ks x)
+own-low : (x : Items) (ℓ p : ℕ) (ks : List R.Label) → AllOf IsLow x → Small (p + own_actions x) → Every LowLabel ks → Every LowLabel (own_labels ℓ p ks x)
 own-low done ℓ p ks h g k = k
 own-low (label t x) ℓ p ks h g k =
-    let l : R.Label = record { level = ℓ; name = t; position = p; twice = false } in
+    let l : R.Label = record { level = ℓ; name = t; position = p } in
     own-low x ℓ p (place l ks) h.1 g (place-low l ks (h.0, omega (arith, g)) k)
 own-low (action n os bs x) ℓ p ks h g k = own-low x ℓ (suc p) ks h.1.1 (omega (arith, g)) k
 

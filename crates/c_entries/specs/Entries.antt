@@ -27,9 +27,8 @@ one_if b = cond b 1 0
 abbrev pub operand_after : Operand → List ℕ → List ℕ
 operand_after o old = sets old 0 (o.action ∷ o.token ∷ one_if o.unclosed ∷ [])
 
--- level, token and position of a label, and whether it was written more than once
 abbrev pub label_after : Label → List ℕ → List ℕ
-label_after l old = sets old 0 (l.level ∷ l.token ∷ l.position ∷ one_if l.twice ∷ [])
+label_after l old = sets old 0 (l.level ∷ l.token ∷ l.position ∷ [])
 
 -- ---- a level
 

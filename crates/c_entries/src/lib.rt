@@ -29,13 +29,12 @@ pub fn tell_operand(operand: Operand, out: &mut [u64; 3])
     out[2] = one_if(operand.unclosed);
 }
 
-pub fn tell_label(label: Label, out: &mut [u64; 4])
+pub fn tell_label(label: Label, out: &mut [u64; 3])
     ensures { out.new ≡ label_after label out.old }
 {
     out[0] = label.level as u64;
     out[1] = label.token as u64;
     out[2] = label.position as u64;
-    out[3] = one_if(label.twice);
 }
 
 // ---- a level; the numbers of its block and of its net are 0 where there is none

@@ -153,16 +153,13 @@ level_back l g h r k =
 low : (q r : ℕ) → r < 1048576 → ((q * 1048576 + r) / 1048576 ≡ q) × ((q * 1048576 + r) % 1048576 ≡ r)
 low q r h = (omega arith, omega arith)
 
--- the fields of a label's word, whatever its bit b is
-fields : (v b p t : ℕ) → b < 2 → Small17 p → Small t → let w = v * 1099511627776 + b * 549755813888 + p * 1048576 + t in
-    ((w / 1099511627776 ≡ v) × (w % 1048576 ≡ t)) × ((w / 1048576 % 131072 ≡ p) × (w / 549755813888 % 2 ≡ b))
-fields v b p t g h k = ((omega arith, omega arith), (omega arith, omega arith))
-
-pub label_back : (l : Label) → Small l.token → Small17 l.position → label_of (label_word l) ≡ l
-label_back l h p = by l.twice
-  where
-    by : (b : Bool)
-        → label_of (label_word (record { level = l.level; token = l.token; position = l.position; twice = b }))
-        ≡ record { level = l.level; token = l.token; position = l.position; twice = b }
-    by true = let d = fields l.level 1 l.position l.token (omega arith) p h in simp (d.0.0, d.0.1, d.1.0, d.1.1)
-    by false = let d = fields l.level 0 l.position l.token (omega arith) p h in simp (d.0.0, d.0.1, d.1.0, d.1.1)
+pub label_back : (l : Label) → Small l.token → Small l.position → label_of (label_word l) ≡ l
+label_back l h p =
+    let q = l.level * 1048576 + l.position in
+    let e : label_word l ≡ q * 1048576 + l.token = omega arith in
+    let d = low q l.token h in
+    let f : label_word l / 1048576 ≡ q = ap (λ n. n / 1048576) e ∙ d.0 in
+    let t : label_word l % 1048576 ≡ l.token = ap (λ n. n % 1048576) e ∙ d.1 in
+    let i : label_word l / 1048576 % 1048576 ≡ l.position = ap (λ n. n % 1048576) f ∙ (low l.level l.position p).1 in
+    let v : label_word l / 1099511627776 ≡ l.level = omega arith in
+    simp (v, t, i)

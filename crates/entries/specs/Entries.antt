@@ -99,17 +99,8 @@ level_places table = length table / 2
 unfoldable pub level_in : List ℕ → ℕ → Level
 level_in table k = cond (ltb k (level_places table)) (level_at table k) (level_of 0 0)
 
-abbrev pub twice_bit : Bool → ℕ
-twice_bit b = cond b 549755813888 0
-
 abbrev pub label_word : Label → ℕ
-label_word l = l.level * 1099511627776 + twice_bit l.twice + l.position * 1048576 + l.token
+label_word l = l.level * 1099511627776 + l.position * 1048576 + l.token
 
 abbrev pub label_of : ℕ → Label
-label_of w =
-    record {
-      level = w / 1099511627776;
-      token = w % 1048576;
-      position = w / 1048576 % 131072;
-      twice = eqb (w / 549755813888 % 2) 1;
-    }
+label_of w = record { level = w / 1099511627776; token = w % 1048576; position = w / 1048576 % 1048576 }

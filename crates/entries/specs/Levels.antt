@@ -17,7 +17,7 @@ fresh b = record { block = b; actions = 0; net = N.Height (pos 0); unclosed = 0 
 abbrev pub with_action : Net → ℕ → Level → Level
 with_action n k l = record { block = l.block; actions = l.actions + 1; net = n; unclosed = l.unclosed + k }
 
--- a number that a field of twenty bits holds, and one of seventeen, as an action's fields and a label's position are
+-- a number that a field of twenty bits holds, and one of seventeen, as an action's fields are
 abbrev pub Small : ℕ → Type 0
 Small n = n < 1048576
 
@@ -50,4 +50,4 @@ abbrev pub OperandFits : Operand → Type 0
 OperandFits o = Small o.action × Small o.token
 
 abbrev pub LabelFits : Label → Type 0
-LabelFits l = (l.level < 16777216) × (Small17 l.position × Small l.token)
+LabelFits l = (l.level < 16777216) × (Small l.position × Small l.token)

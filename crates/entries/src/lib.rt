@@ -3,7 +3,7 @@ ghost use Rattle.std.specs.Prelude.{◌≡◌, [], ◌∷◌, ◌*◌, ◌-◌, 
 ghost use Rattle.tokens.specs.Tokens.{token_of};
 ghost use Rattle.std.proofs.lemmas.List.Edits.{sets};
 ghost use Rattle.entries.specs.declared.Block.TheVariants as B;
-ghost use Rattle.entries.specs.Entries.{action_word, action_of, unclosed_bit, operand_word, operand_of, block_number, part_of, block_of, net_number, net_of, level_words, level_of, level_at, level_in, twice_bit, label_word, label_of, owner_of};
+ghost use Rattle.entries.specs.Entries.{action_word, action_of, unclosed_bit, operand_word, operand_of, block_number, part_of, block_of, net_number, net_of, level_words, level_of, level_at, level_in, label_word, label_of, owner_of};
 ghost use Rattle.entries.specs.Levels.{fresh, with_action, Small, NetFits, SmallLevel, ActionFits, OperandFits, LabelFits};
 
 use actions::{action_at, action_number};
@@ -53,13 +53,12 @@ pub struct Level {
     pub unclosed: usize,
 }
 
-// The token is the first that names it, the position the last that it was given; twice if it was written more than once in its level.
+// The token is the first that names it, the position the last that it was given.
 #[derive(Drop)]
 pub struct Label {
     pub level: usize,
     pub token: usize,
     pub position: usize,
-    pub twice: bool,
 }
 
 pub fn action_of(word: u64) -> Action
@@ -130,8 +129,7 @@ pub fn label_of(word: u64) -> Label
     Label {
         level: (word / 1099511627776) as usize,
         token: (word % 1048576) as usize,
-        position: (word / 1048576 % 131072) as usize,
-        twice: word / 549755813888 % 2 == 1,
+        position: (word / 1048576 % 1048576) as usize,
     }
 }
 
@@ -223,20 +221,11 @@ pub fn put_operand(table: &mut [u64], at: usize, operand: Operand)
     );
 }
 
-// The bit of a label that was written more than once.
-fn twice_bit(twice: bool) -> u64
-    ensures value { result ≡ twice_bit twice }
-    ensures upper_bound { result ≤ 549755813888 }
-{
-    if twice { 549755813888 } else { 0 }
-}
-
 pub fn label_word(label: Label) -> u64
     requires { LabelFits label }
     ensures { result ≡ label_word label }
 {
-    let bit = twice_bit(label.twice);
-    label.level as u64 * 1099511627776 + bit + label.position as u64 * 1048576 + label.token as u64
+    label.level as u64 * 1099511627776 + label.position as u64 * 1048576 + label.token as u64
 }
 
 pub fn put_label(table: &mut [u64], at: usize, label: Label)

@@ -16,9 +16,6 @@ fn print_label(label: Label) {
     print_field(label.level);
     print_field(label.token);
     print_field(label.position);
-    if label.twice {
-        print_text(b" twice");
-    }
 }
 
 fn print_counts(c: Counts) {
@@ -65,7 +62,6 @@ fn read_two(
         level: 9,
         token: 9,
         position: 9,
-        twice: true,
     };
     let mut labels = [mark; 2];
     let reading = read_entries(text, tokens, actions, operands, levels, &mut labels);

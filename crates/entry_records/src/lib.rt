@@ -178,20 +178,12 @@ pub fn expect_label(list: &[u8], c: Cursor, label: Label) -> Cursor {
     expect(list, c, label.position as u64)
 }
 
-// How often a label was written: 1 once, 2 more than once.
-fn written(twice: bool) -> u64 {
-    if twice {
-        return 2;
-    }
-    1
-}
-
-// And its name, and how often it was written.
+// And its name; how often it was written (§3) is passed over until then.
 fn expect_named(list: &[u8], c: Cursor, text: &[u8], words: &[u64], label: Label) -> Cursor {
     let c = expect_label(list, c, label);
     let token = entries::token_in(words, label.token);
     let c = records::expect_bytes(list, c, tokens::raw_text(text, token));
-    expect(list, c, written(label.twice))
+    pass(list, c)
 }
 
 fn expect_labels(

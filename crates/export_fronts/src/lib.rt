@@ -1,6 +1,6 @@
 // Export as the programs that try it call it: into the front of each table and of the output. It promises nothing, so that a
 // check of such a program does not go through what `export` promises. With it what those programs look at afterwards: marked
-// tables and outputs, and whether two outputs hold the same.
+// tables and outputs, and whether two hold the same.
 use action_records::Style;
 use export::Exporting;
 use fronts::{Lent, least};
@@ -62,8 +62,21 @@ pub fn answer_place(told: Exporting) -> usize {
 
 // ---- marks
 
-// What an output holds before a call, all over; a table holds `fronts::MARK`.
+// What a table and an output hold before a call, all over: a word that no entry is.
+pub const MARK: u64 = 0xA5A5_A5A5_A5A5_A5A5;
+
 pub const MARK_BYTE: u8 = 0xA5;
+
+pub fn is_marked(table: &[u64]) -> bool {
+    let mut i = 0;
+    while i < table.len() {
+        if table[i] != MARK {
+            return false;
+        }
+        i += 1;
+    }
+    true
+}
 
 // Whether an output holds the mark from a place on.
 pub fn is_marked_from(out: &[u8], from: usize) -> bool {
@@ -86,13 +99,39 @@ pub fn are_marked(
     labels: &[u64],
     out: &[u8],
 ) -> bool {
-    if !fronts::are_marked(tokens, actions, operands, levels, labels) {
+    if !is_marked(tokens) {
+        return false;
+    }
+    if !is_marked(actions) {
+        return false;
+    }
+    if !is_marked(operands) {
+        return false;
+    }
+    if !is_marked(levels) {
+        return false;
+    }
+    if !is_marked(labels) {
         return false;
     }
     is_marked_from(out, 0)
 }
 
 // ---- what two calls left
+
+pub fn same_words(a: &[u64], b: &[u64]) -> bool {
+    if a.len() != b.len() {
+        return false;
+    }
+    let mut i = 0;
+    while i < a.len() {
+        if a[i] != b[i] {
+            return false;
+        }
+        i += 1;
+    }
+    true
+}
 
 pub fn same_bytes(a: &[u8], b: &[u8]) -> bool {
     if a.len() != b.len() {

@@ -3,8 +3,8 @@
 // export writes and two of them where a field stands; or the refusal. Its `stdout` is printed by `compare/vectors limits`.
 use action_records::Style;
 use export::Exporting;
-use export_fronts::{MARK_BYTE, are_marked, export_fronts, front};
-use fronts::{Lent, MARK};
+use export_fronts::{MARK, MARK_BYTE, are_marked, export_fronts, front};
+use fronts::Lent;
 use libc::STDOUT_FILENO;
 use printing::{print_number, print_refusal, print_text};
 

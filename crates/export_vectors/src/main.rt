@@ -7,12 +7,12 @@
 ghost use Rattle.std.specs.Prelude.{◌≤◌};
 
 use action_records::Style;
-use as2_pcode::Counts;
+use as2_pcode::{Counts, Reading};
 use export::Exporting;
 use export_fronts::{
-    MARK_BYTE, answer_number, answer_place, are_marked, export_fronts, same_bytes,
+    MARK, MARK_BYTE, answer_number, answer_place, are_marked, export_fronts, same_bytes, same_words,
 };
-use fronts::{Lent, MARK, is_as_read, least, same_tables};
+use fronts::{Lent, least};
 use printing::{print_number, print_text};
 use records::{Cursor, number_from};
 
@@ -112,6 +112,96 @@ fn call_at(list: &[u8], at: usize) -> Call {
 }
 
 // ---- an accepted text, again
+
+fn same_tables(
+    tokens: &[u64; 4096],
+    actions: &[u64; 4096],
+    operands: &[u64; 4096],
+    levels: &[u64; 8192],
+    labels: &[u64; 4096],
+    other_tokens: &[u64; 4096],
+    other_actions: &[u64; 4096],
+    other_operands: &[u64; 4096],
+    other_levels: &[u64; 8192],
+    other_labels: &[u64; 4096],
+) -> bool {
+    if !same_words(tokens, other_tokens) {
+        return false;
+    }
+    if !same_words(actions, other_actions) {
+        return false;
+    }
+    if !same_words(operands, other_operands) {
+        return false;
+    }
+    if !same_words(levels, other_levels) {
+        return false;
+    }
+    same_words(labels, other_labels)
+}
+
+fn same_counts(c: Counts, reading: Reading) -> bool {
+    match reading {
+        Reading::Read(n) => {
+            if n.tokens != c.tokens {
+                return false;
+            }
+            if n.actions != c.actions {
+                return false;
+            }
+            if n.operands != c.operands {
+                return false;
+            }
+            if n.levels != c.levels {
+                return false;
+            }
+            n.labels == c.labels
+        }
+        Reading::Refused(_) => false,
+    }
+}
+
+// Whether `read` counts and fills as export did.
+fn is_as_read(
+    text: &[u8],
+    lent: Lent,
+    c: Counts,
+    tokens: &[u64; 4096],
+    actions: &[u64; 4096],
+    operands: &[u64; 4096],
+    levels: &[u64; 8192],
+    labels: &[u64; 4096],
+) -> bool {
+    let mut read_tokens = [MARK; 4096];
+    let mut read_actions = [MARK; 4096];
+    let mut read_operands = [MARK; 4096];
+    let mut read_levels = [MARK; 8192];
+    let mut read_labels = [MARK; 4096];
+    let reading = fronts::read_fronts(
+        text,
+        lent,
+        &mut read_tokens,
+        &mut read_actions,
+        &mut read_operands,
+        &mut read_levels,
+        &mut read_labels,
+    );
+    if !same_counts(c, reading) {
+        return false;
+    }
+    same_tables(
+        tokens,
+        actions,
+        operands,
+        levels,
+        labels,
+        &read_tokens,
+        &read_actions,
+        &read_operands,
+        &read_levels,
+        &read_labels,
+    )
+}
 
 // Whether export into other places leaves the same entries and bytes.
 fn is_written_again(

@@ -12,15 +12,39 @@ ghost use Rattle.first_pass.specs.Faults.{fault_of, aim_for, fault_for, Aimed};
 use action_records::Style;
 use coding::put_record;
 use entries::{Action, action_in};
-use jumps::{Aim, aim_at, is_jump};
+use jumps::{Aim, aim_at};
 use labels::{Merging, index_labels};
 use names::ActionName;
+use shapes::{Shape, shape_of};
 
 // The number of a fault, 0 for none, and its action.
 #[derive(Drop)]
 pub struct Fault {
     pub number: u64,
     pub action: usize,
+}
+
+// Whether an action is an If or a Jump.
+fn is_jump(name: ActionName) -> bool
+    ensures { result ≡ is_jump (shape_of name) }
+{
+    match shape_of(name) {
+        Shape::Nothing => false,
+        Shape::Values => false,
+        Shape::Strings => false,
+        Shape::StringString => false,
+        Shape::BoolBoolU8 => false,
+        Shape::U16 => false,
+        Shape::BoolBoolMaybeU16 => false,
+        Shape::String => false,
+        Shape::Identifier => true,
+        Shape::U8 => false,
+        Shape::U16U8 => false,
+        Shape::Function => false,
+        Shape::Function2 => false,
+        Shape::Block => false,
+        Shape::Try => false,
+    }
 }
 
 // Where action i jumps to; 0 for nowhere.

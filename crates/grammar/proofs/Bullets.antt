@@ -30,7 +30,7 @@ use Rattle.lexemes.specs.Events.{body, try, catch, finally}
 use Rattle.grammar.specs.Grammar.{Items, done, label, action, no_blocks, block}
 use Rattle.grammar.specs.Reading.{reading_of}
 use Rattle.grammar.specs.Nets.{undetermined, nets}
-use Rattle.grammar.proofs.Cases.{act, op, top, of, lacking, at, again, up, down, whole, letters, Case, reads, refuses, AllTold, no_more, ◌also◌, read_told, six_told, seven_told}
+use Rattle.grammar.proofs.Cases.{act, op, top, of, lacking, at, up, down, whole, letters, Case, reads, refuses, AllTold, no_more, ◌also◌, read_told, six_told, seven_told}
 
 -- n times With, a line feed only after each closing brace
 abbrev opened : ℕ → List ℕ
@@ -105,7 +105,7 @@ bullets =
     ∷ reads (bytes "Try \"e\" {}\ncatch {}") (act A.Try 0 ∷ []) (op 0 1 (K.String true) (bytes "e") (letters 1) ∷ []) (top 1 (up 0) ∷ of 0 try 0 (up 0) ∷ of 0 catch 0 (up 0) ∷ []) []
     ∷ reads (bytes "Try \"e\" {}\nfinally {}") (act A.Try 0 ∷ []) [] (top 1 (up 0) ∷ of 0 try 0 (up 0) ∷ of 0 finally 0 (up 0) ∷ []) []
     -- labels: byte for byte, each level its own
-    ∷ reads (bytes "b: A: a: A:") [] [] (top 0 (up 0) ∷ []) (at 0 0 (bytes "b") 0 ∷ again 0 2 (bytes "A") 0 ∷ at 0 4 (bytes "a") 0 ∷ [])
+    ∷ reads (bytes "b: A: a: A:") [] [] (top 0 (up 0) ∷ []) (at 0 0 (bytes "b") 0 ∷ at 0 2 (bytes "A") 0 ∷ at 0 4 (bytes "a") 0 ∷ [])
     ∷ reads (bytes "start: Push \"ok\", 3\nWith {\nTrace\ndone: }\nJump start\n")
     (act A.Push 0 ∷ act A.With 0 ∷ act A.Trace 1 ∷ act A.Jump 0 ∷ [])
     (op 0 3 (K.String true) (bytes "ok") (letters 2) ∷ op 0 5 K.Integer (bytes "3") (whole (pos 3)) ∷ op 3 17 K.Identifier (bytes "start") none ∷ [])

@@ -1,7 +1,7 @@
 -- Claims on closed texts, written short: a text's bytes, the reading that it has, with the values of its operands, or its refusal
 -- and place. Assumes nothing.
 use mathlib.Core.Path.{◌≡◌, refl}
-use mathlib.Core.Bool.{true, false}
+use mathlib.Core.Bool.{true}
 use mathlib.Core.List.{List, [], ◌∷◌, map}
 use mathlib.Core.Option.{Option, none, some}
 use Prim.Native.Nat.{ℕ, ◌+◌}
@@ -74,11 +74,7 @@ letters n = some (P.String (span 0 n))
 
 -- in a level: the token i, its name, its position
 abbrev pub at : ℕ → ℕ → List ℕ → ℕ → Label
-at ℓ i w p = record { level = ℓ; name = lexeme i K.Identifier w; position = p; twice = false }
-
--- the same, written more than once
-abbrev pub again : ℕ → ℕ → List ℕ → ℕ → Label
-again ℓ i w p = record { level = ℓ; name = lexeme i K.Identifier w; position = p; twice = true }
+at ℓ i w p = record { level = ℓ; name = lexeme i K.Identifier w; position = p }
 
 -- ---- claims
 

@@ -1,6 +1,5 @@
 -- Every label of a reading names a level of it, and a position not behind that level's last action. Assumes nothing.
 use mathlib.Core.Path.{◌≡◌, refl, subst}
-use mathlib.Core.Bool.{false}
 use mathlib.Core.Logic.{⊎_elim}
 use mathlib.Core.List.Memᴰ
 use mathlib.Core.List.{List, [], ◌∷◌, map, Memᴰ}
@@ -39,7 +38,7 @@ module _ (ℓ n : ℕ) where
   own : (x : Items) (p : ℕ) (ks : List Label) → p + own_actions x ≤ n → AllOwn ks → AllOwn (own_labels ℓ p ks x)
   own done p ks h o = o
   own (label t x) p ks h o =
-      let l : Label = record { level = ℓ; name = t; position = p; twice = false } in
+      let l : Label = record { level = ℓ; name = t; position = p } in
       own x p (place l ks) h (placed l ks (refl, omega arith) o)
   own (action m os bs x) p ks h o = own x (suc p) ks (omega arith) o
 

@@ -1,6 +1,5 @@
 -- The size of a tree and how many entries of each kind it has, against the tokens that it takes. Assumes nothing.
 use mathlib.Core.Path.{◌≡◌, subst}
-use mathlib.Core.Bool.{false}
 use mathlib.Core.List.{List, [], ◌∷◌, ◌++◌}
 use Prim.Native.Nat.{ℕ, zero, suc, ◌+◌, ◌*◌, ◌-◌, ◌≤◌}
 use native.Mathlib.Nat.{add-suc, add-zero, suc-add, zero-add}
@@ -260,7 +259,7 @@ mutual
       → (length (opened_of a x) ≡ all_blocks x) × (length (labels_from m (opened_of a x)) + length (own_labels ℓ p so_far x) ≤ all_labels x + length so_far)
   opened-counts done a m ℓ p so_far = (omega arith, omega arith)
   opened-counts (label t x) a m ℓ p so_far =
-      let l : Label = record { level = ℓ; name = t; position = p; twice = false } in
+      let l : Label = record { level = ℓ; name = t; position = p } in
       let i = opened-counts x a m ℓ p (place l so_far) in
       (i.0, omega (arith, i.1, place-size l so_far))
   opened-counts (action n os bs x) a m ℓ p so_far =

@@ -29,7 +29,7 @@ use Rattle.lexemes.specs.Events.{body}
 use Rattle.grammar.specs.Grammar.{done, label, action, no_blocks, block}
 use Rattle.grammar.specs.Reading.{reading_of}
 use Rattle.grammar.specs.Nets.{nets}
-use Rattle.grammar.proofs.Cases.{act, op, top, of, lacking, at, again, up, down, whole, double, letters, Case, reads, refuses, AllTold, no_more, ◌also◌, read_told, six_told, lexing_told}
+use Rattle.grammar.proofs.Cases.{act, op, top, of, lacking, at, up, down, whole, double, letters, Case, reads, refuses, AllTold, no_more, ◌also◌, read_told, six_told, lexing_told}
 
 -- text, actions, operands with their values, levels, labels; or text, refusal, place
 abbrev pub starred : List Case
@@ -59,7 +59,7 @@ starred =
     []
     ∷ refuses (bytes "With { Add }") 6 3
     ∷ reads (bytes "With { a: }") (act A.With 0 ∷ []) [] (top 1 (down 1) ∷ of 0 body 0 (up 0) ∷ []) (at 1 2 (bytes "a") 0 ∷ [])
-    ∷ reads (bytes "a: Add\na: Pop") (act A.Add 0 ∷ act A.Pop 0 ∷ []) [] (top 2 (down 2) ∷ []) (again 0 0 (bytes "a") 1 ∷ [])
+    ∷ reads (bytes "a: Add\na: Pop") (act A.Add 0 ∷ act A.Pop 0 ∷ []) [] (top 2 (down 2) ∷ []) (at 0 0 (bytes "a") 1 ∷ [])
     ∷ []
 
 pub starred_told : AllTold starred

@@ -1,5 +1,5 @@
 -- A reading: document 01, 'The call' and 'Grammar', as tables of a tree.
-use Rattle.std.specs.Prelude.{◌≡◌, Bool, true, false, cond, List, [], ◌∷◌, ◌++◌, map, ℕ, suc, ◌+◌, length}
+use Rattle.std.specs.Prelude.{◌≡◌, cond, List, [], ◌∷◌, ◌++◌, map, ℕ, suc, ◌+◌, length}
 use Rattle.std.proofs.Math.Option.{Option, none, some}
 use Rattle.names.specs.declared.ActionName.{ActionName}
 use Rattle.lexemes.specs.Lexemes.{Lexeme, raw, unclosed, same_name}
@@ -26,12 +26,10 @@ pub record Level : Type 0 where
   pub actions : ℕ
   pub unclosed : ℕ
 
--- twice: written more than once in its level (document 02)
 pub record Label : Type 0 where
   pub level : ℕ
   pub name : Lexeme
   pub position : ℕ
-  pub twice : Bool
 
 pub record Reading : Type 0 where
   pub actions : List Action
@@ -124,18 +122,18 @@ operands_from a (l ∷ ls) = map (λ (t : Lexeme). record { action = a; token = 
 
 -- ---- labels, by level and then in their order
 
--- written again, a label keeps its first place in the order and takes the new position; then it was written more than once
+-- written again, a label keeps its first place in the order and takes the new position
 abbrev pub place : Label → List Label → List Label
 place l [] = l ∷ []
 place l (k ∷ ks) =
     cond (same_name (raw l.name) (raw k.name))
-    (record { level = k.level; name = k.name; position = l.position; twice = true } ∷ ks)
+    (record { level = k.level; name = k.name; position = l.position } ∷ ks)
     (k ∷ place l ks)
 
 -- the labels of level ℓ, first those placed so far: a label's position is the number p of actions before it in its level
 abbrev pub own_labels : ℕ → ℕ → List Label → Items → List Label
 own_labels ℓ p so_far done = so_far
-own_labels ℓ p so_far (label t x) = own_labels ℓ p (place (record { level = ℓ; name = t; position = p; twice = false }) so_far) x
+own_labels ℓ p so_far (label t x) = own_labels ℓ p (place (record { level = ℓ; name = t; position = p }) so_far) x
 own_labels ℓ p so_far (action n os bs x) = own_labels ℓ (suc p) so_far x
 
 -- of the levels from ℓ on

@@ -112,10 +112,6 @@ module _ (text : List ℕ) (m room : ℕ) (ps ps' : List ℕ) (t : Serves (Ample
       })
   serves (fits {R = R} e w f) = fits (sym (same_lexing text m room t) ∙ e) w (λ k h. f k (narrower R k h))
 
--- what is accepted is accepted with more places
-pub accepted_wider : {room : ℕ} {ps text : List ℕ} {R : G.Reading} (ps' : List ℕ) → ((k : ℕ) → get_or ps k 0 ≤ get_or ps' k 0) → Answers room ps text (accepted R) → Answers room ps' text (accepted R)
-accepted_wider ps' h (fits e w f) = fits e w (λ k g. f k (omega (arith, h k, g)))
-
 -- ---- the tables
 
 -- p is the front of the table x, and has become y: then the table has become z
@@ -143,17 +139,18 @@ pub record Parts {L : Type 0} (p y x z : Tables L) : Type 0 where
   pub levels : Part p.levels y.levels x.levels z.levels
   pub labels : Part p.labels y.labels x.labels z.labels
 
--- the parts p of the tables x are read into
-module _ {L : Type 0} {p y x z : Tables L} (t : Parts p y x z) where
-  pub parts_read : {entry : G.Label → L} {room : ℕ} {ps text : List ℕ} {c : Counts} (a : Accepts entry (length p.tokens) (places p) text p y c)
-      → lex_text text room ≡ accepted a.tokens → Answers room ps text (accepted a.reading) → Accepts entry room ps text x z c
-  parts_read a e f =
+-- the parts p of the tables x are read into; the answer is that for the places that they serve for
+module _ {L : Type 0} (entry : G.Label → L) (text : List ℕ) (room : ℕ) (ps : List ℕ) (p y x z : Tables L) (t : Parts p y x z)
+    (s : Serves (AmpleTokens (length text) (length p.tokens)) (length p.tokens) room) (s' : AllServe (length text) (places p) ps) where
+  pub cut : (r : Reading) → Reads entry text p y r → ReadsFor entry room ps text x z r
+  unfolding Reads
+  cut (R.Read c) a =
       record {
         tokens = a.tokens;
         reading = a.reading;
         nets = a.nets;
-        lexed = e;
-        answer = f;
+        lexed = sym (same_lexing text (length p.tokens) room s) ∙ a.lexed;
+        answer = serves text (length p.tokens) room (places p) ps s s' a.answer;
         net = a.net;
         tables = λ i. record {
           tokens = part_fills t.tokens (tokens_fill a) (tokens_fit a) i;
@@ -164,25 +161,16 @@ module _ {L : Type 0} {p y x z : Tables L} (t : Parts p y x z) where
         };
         counts = a.counts;
       }
-
-  pub parts_same : y ≡ p → z ≡ x
-  parts_same e =
-      λ i. record {
-        tokens = part_same t.tokens (ap (λ (q : Tables L). q.tokens) e) i;
-        actions = part_same t.actions (ap (λ (q : Tables L). q.actions) e) i;
-        operands = part_same t.operands (ap (λ (q : Tables L). q.operands) e) i;
-        levels = part_same t.levels (ap (λ (q : Tables L). q.levels) e) i;
-        labels = part_same t.labels (ap (λ (q : Tables L). q.labels) e) i;
-      }
-
--- the answer is that for the places that they serve for
-module _ {L : Type 0} (entry : G.Label → L) (text : List ℕ) (room : ℕ) (ps : List ℕ) (p y x z : Tables L) (t : Parts p y x z)
-    (s : Serves (AmpleTokens (length text) (length p.tokens)) (length p.tokens) room) (s' : AllServe (length text) (places p) ps) where
-  pub cut : (r : Reading) → Reads entry text p y r → ReadsFor entry room ps text x z r
-  unfolding Reads
-  cut (R.Read c) a =
-      parts_read t a (sym (same_lexing text (length p.tokens) room s) ∙ a.lexed) (serves text (length p.tokens) room (places p) ps s s' a.answer)
-  cut (R.Refused f) a = (serves text (length p.tokens) room (places p) ps s s' a.0, parts_same t a.1)
+  cut (R.Refused f) a = (
+    serves text (length p.tokens) room (places p) ps s s' a.0,
+    λ i. record {
+      tokens = part_same t.tokens (ap (λ (q : Tables L). q.tokens) a.1) i;
+      actions = part_same t.actions (ap (λ (q : Tables L). q.actions) a.1) i;
+      operands = part_same t.operands (ap (λ (q : Tables L). q.operands) a.1) i;
+      levels = part_same t.levels (ap (λ (q : Tables L). q.levels) a.1) i;
+      labels = part_same t.labels (ap (λ (q : Tables L). q.labels) a.1) i;
+    },
+  )
 
 -- ---- tables that are cut to the places of lent ones
 

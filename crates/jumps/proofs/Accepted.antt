@@ -62,7 +62,7 @@ module _ {room : ℕ} {places text s : List ℕ} {x y : Tables ℕ} {c : Counts}
   pub told : reading_of tree ≡ a.reading
   told = ap reading_of (one-tree q.fits (read a).fits) ∙ (read a).told
 
-  pub sound : Every (Sound text s) (opened tree)
+  sound : Every (Sound text s) (opened tree)
   sound = all_sound text s tree tokens-found (omega (arith, few-of tree 0 1 0, small))
 
   labels_are : take c.labels y.labels ≡ map label_entry_word (labels_from 0 (opened tree))

@@ -13,7 +13,7 @@ use Rattle.grammar.specs.Reading as R
 use Rattle.grammar.specs.Reading.{Opened, own_actions, place, own_labels, labels_from}
 use Rattle.entries.specs.declared.Label as D
 use Rattle.entries.specs.Entries.{label_of}
-use Rattle.entries.specs.Levels.{Small17}
+use Rattle.entries.specs.Levels.{Small}
 use Rattle.entries.proofs.Words.{label_back}
 use Rattle.label_names.specs.Names.{is_named}
 use Rattle.label_names.proofs.Named.{not_named, named}
@@ -35,10 +35,10 @@ module _ (text s : List ℕ) where
   -- ---- the labels of one level
 
   -- a label of level ℓ, which its word tells
-  pub record Own (ℓ : ℕ) (l : R.Label) : Type 0 where
-    pub level : l.level ≡ ℓ
-    pub name : Found text s l.name
-    pub position : Small17 l.position
+  record Own (ℓ : ℕ) (l : R.Label) : Type 0 where
+    level : l.level ≡ ℓ
+    name : Found text s l.name
+    position : Small l.position
 
   place-own : (ℓ : ℕ) (l : R.Label) → Own ℓ l → (ks : List R.Label) → Every (Own ℓ) ks → Every (Own ℓ) (place l ks)
   place-own ℓ l o [] h = (o, tt)
@@ -47,14 +47,14 @@ module _ (text s : List ℕ) where
       (record { level = h.0.level; name = h.0.name; position = o.position }, h.1)
       (h.0, place-own ℓ l o ks h.1)
 
-  labels-own : (ℓ p : ℕ) (ks : List R.Label) (x : Items) → Named text s x → Small17 (p + own_actions x) → Every (Own ℓ) ks → Every (Own ℓ) (own_labels ℓ p ks x)
+  labels-own : (ℓ p : ℕ) (ks : List R.Label) (x : Items) → Named text s x → Small (p + own_actions x) → Every (Own ℓ) ks → Every (Own ℓ) (own_labels ℓ p ks x)
   labels-own ℓ p ks done h g o = o
   labels-own ℓ p ks (label t x) h g o =
-      let l : R.Label = record { level = ℓ; name = t; position = p; twice = false } in
+      let l : R.Label = record { level = ℓ; name = t; position = p } in
       labels-own ℓ p (place l ks) x h.1 g (place-own ℓ l (record { level = refl; name = h.0; position = omega (arith, g) }) ks o)
   labels-own ℓ p ks (action n os bs x) h g o = labels-own ℓ (suc p) ks x h (omega (arith, g)) o
 
-  pub level-own : (ℓ : ℕ) (l : Opened) → Sound text s l → Every (Own ℓ) (own_labels ℓ 0 [] l.items)
+  level-own : (ℓ : ℕ) (l : Opened) → Sound text s l → Every (Own ℓ) (own_labels ℓ 0 [] l.items)
   level-own ℓ l h = let g = h.few in labels-own ℓ 0 [] l.items h.named (omega (arith, g)) tt
 
   -- ---- their words

@@ -11,14 +11,14 @@ use Rattle.movies.specs.Meaning.{position_of}
 
 module _ (ℓ : ℕ) where
   abbrev in_level : Label → Label
-  in_level l = record { level = ℓ; name = l.name; position = l.position; twice = l.twice }
+  in_level l = record { level = ℓ; name = l.name; position = l.position }
 
   place_in_lem : (l : Label) (ks : List Label) → map in_level (place l ks) ≡ place (in_level l) (map in_level ks)
   place_in_lem l [] = refl
   place_in_lem l (k ∷ ks) = by (same_name (raw l.name) (raw k.name)) (place_in_lem l ks)
     where
       again : Label
-      again = record { level = k.level; name = k.name; position = l.position; twice = true }
+      again = record { level = k.level; name = k.name; position = l.position }
 
       by : (b : Bool) → map in_level (place l ks) ≡ place (in_level l) (map in_level ks)
           → map in_level (cond b (again ∷ ks) (k ∷ place l ks)) ≡ cond b (in_level again ∷ map in_level ks) (in_level k ∷ place (in_level l) (map in_level ks))
@@ -28,7 +28,7 @@ module _ (ℓ : ℕ) where
   own_in : (m p : ℕ) (ks : List Label) (x : Items) → map in_level (own_labels m p ks x) ≡ own_labels ℓ p (map in_level ks) x
   own_in m p ks done = refl
   own_in m p ks (label t x) =
-      let l : Label = record { level = m; name = t; position = p; twice = false } in
+      let l : Label = record { level = m; name = t; position = p } in
       own_in m p (place l ks) x ∙ ap (λ (q : List Label). own_labels ℓ p q x) (place_in_lem l ks)
   own_in m p ks (action n os bs x) = own_in m (suc p) ks x
 

@@ -9,11 +9,6 @@ use Rattle.movies.specs.Movie.{Value, position, missing}
 abbrev pub name_at : List ℕ → List ℕ → ℕ → List ℕ
 name_at text s token = raw_text text (token_of (get_or s token 0))
 
--- the place of the first label of that level and name, or how many labels there are
-abbrev pub place_in : List ℕ → List ℕ → ℕ → List ℕ → List ℕ → ℕ
-place_in text s level name [] = 0
-place_in text s level name (w ∷ ws) = cond (is_named text s level name w) 0 (suc (place_in text s level name ws))
-
 -- one more than the position of the first label of that level and name; 0 where there is none
 abbrev pub aim_in : List ℕ → List ℕ → ℕ → List ℕ → List ℕ → ℕ
 aim_in text s level name [] = 0

@@ -1,68 +1,16 @@
 // The label that an If or a Jump names, in its level: found by the index of the labels that reading fills in.
 ghost use Rattle.std.specs.Prelude.{◌≡◌, ◌<◌, take};
-ghost use Rattle.shapes.specs.Shapes.{shape_of};
 ghost use Rattle.labels.specs.Index.{Indexed};
-ghost use Rattle.movies.specs.Meaning.{is_jump};
-ghost use Rattle.jumps.specs.Aims.{name_at, place_in, aim_in, aim_at};
+ghost use Rattle.jumps.specs.Aims.{name_at, aim_in, aim_at};
 
 use entries::{Label, action_in, label_of, label_word, operand_in};
-use labels::{LookedUp, Merging, look_up};
-use names::ActionName;
-use shapes::{Shape, shape_of};
+use labels::{Merging, look_up};
 
 // One more than the position of a label, or 0; and the index after the walk.
 #[derive(Drop)]
 pub struct Aim {
     pub aim: usize,
     pub merging: Merging,
-}
-
-// Whether an action is an If or a Jump.
-pub fn is_jump(name: ActionName) -> bool
-    ensures { result ≡ is_jump (shape_of name) }
-{
-    match shape_of(name) {
-        Shape::Nothing => false,
-        Shape::Values => false,
-        Shape::Strings => false,
-        Shape::StringString => false,
-        Shape::BoolBoolU8 => false,
-        Shape::U16 => false,
-        Shape::BoolBoolMaybeU16 => false,
-        Shape::String => false,
-        Shape::Identifier => true,
-        Shape::U8 => false,
-        Shape::U16U8 => false,
-        Shape::Function => false,
-        Shape::Function2 => false,
-        Shape::Block => false,
-        Shape::Try => false,
-    }
-}
-
-// The place in the table of the label of that level and of the name that the token has, or how many labels there are.
-pub fn find_label(
-    text: &[u8],
-    s: &[u64],
-    labels: &[u64],
-    t: Merging,
-    index: &mut [u64],
-    level: usize,
-    token: usize,
-) -> LookedUp
-    requires indexed_2 { Indexed text.now s.now t.seed t.labels labels.now index.old }
-    requires level_bound { (level < 16777216) × (token < 1048576) }
-    ensures found { result.place ≡ place_in text.now s.now level (name_at text.now s.now token) (take t.labels labels.now) }
-    ensures kept { result.merging.labels ≡ t.labels }
-    ensures indexed { Indexed text.now s.now result.merging.seed result.merging.labels labels.now index.new }
-{
-    let named = Label {
-        level,
-        token,
-        position: 0,
-        twice: false,
-    };
-    look_up(text, s, labels, t, index, label_word(named))
 }
 
 // Where a jump of that level goes, whose operand is that token. Labels of other levels are no targets.
@@ -81,7 +29,12 @@ pub fn aim_of(
     ensures kept { result.merging.labels ≡ t.labels }
     ensures indexed { Indexed text.now s.now result.merging.seed result.merging.labels labels.now index.new }
 {
-    let found = find_label(text, s, labels, t, index, level, token);
+    let named = Label {
+        level,
+        token,
+        position: 0,
+    };
+    let found = look_up(text, s, labels, t, index, label_word(named));
     let k = found.place;
     let merging = found.merging;
     if k < t.labels {

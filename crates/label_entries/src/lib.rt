@@ -47,7 +47,6 @@ pub fn label_at(labels: &[Label], at: usize) -> Label
         level: 0,
         token: 0,
         position: 0,
-        twice: false,
     }
 }
 

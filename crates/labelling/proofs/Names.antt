@@ -1,6 +1,5 @@
 -- The labels that the events of a tree name, in the order of the text. Assumes nothing.
 use mathlib.Core.Path.{◌≡◌, refl, ap, ◌∙◌}
-use mathlib.Core.Bool.{false}
 use mathlib.Core.List.{List, [], ◌∷◌, ◌++◌}
 use Prim.Native.Nat.{ℕ, suc, ◌+◌, ◌≤◌, ◌<◌}
 use native.Mathlib.Numerals.{add-one}
@@ -44,7 +43,7 @@ gave (t ∷ os) k T h = ap (run (givens os k)) (decoded 2 (place_of t) T h.0) �
 
 -- the place in level ℓ behind p of its actions, as its word
 abbrev placed : ℕ → ℕ → ℕ
-placed ℓ p = label_word (record { level = ℓ; token = 0; position = p; twice = false })
+placed ℓ p = label_word (record { level = ℓ; token = 0; position = p })
 
 module _ (W N : List ℕ) (ℓ m n p : ℕ) where
   acted-step : (v : ℕ) → Holdable v → step (log_word 0 v) (naming W N (standing ℓ m n p)) ≡ naming W N (standing ℓ m n (suc p))
@@ -65,7 +64,7 @@ module _ (W N : List ℕ) (ℓ m n p : ℕ) where
   closed-step : (o a : ℕ) → get_or W ℓ 0 ≡ placed o a → a ≤ 65536 → step (event_word E.closed) (naming W N (standing ℓ m n p)) ≡ naming W N (standing o m n a)
   unfolding naming closed
   closed-step o a e h =
-      let z = ap label_of e ∙ label_back (record { level = o; token = 0; position = a; twice = false }) (omega arith) (omega arith) in
+      let z = ap label_of e ∙ label_back (record { level = o; token = 0; position = a }) (omega arith) (omega arith) in
       decoded 4 0 (naming W N (standing ℓ m n p)) (omega arith) ∙ (λ j. record { own = W; named = N; at = standing (z j).level m n (z j).position })
 
 -- ---- behind a tree's events: what the words of its own levels are is not told

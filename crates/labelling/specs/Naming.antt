@@ -1,5 +1,5 @@
 -- What each event of a log adds to its labels, in the order of the text. No public contract cites it.
-use Rattle.std.specs.Prelude.{◌≡◌, false, List, [], ◌∷◌, ℕ, ◌+◌, ◌≤◌, ◌<◌, get_or, set}
+use Rattle.std.specs.Prelude.{◌≡◌, List, [], ◌∷◌, ℕ, ◌+◌, ◌≤◌, ◌<◌, get_or, set}
 use Rattle.events.specs.declared.Event.{Event}
 use Rattle.events.specs.declared.Event.TheVariants as E
 use Rattle.events.specs.Log.{event_of}
@@ -26,7 +26,7 @@ naming ws ns n = record { own = ws; named = ns; at = n }
 
 -- a place in the open level: a label's position is how many actions its level has so far
 abbrev pub here : ℕ → Namer → Label
-here t n = record { level = n.level; token = t; position = n.actions; twice = false }
+here t n = record { level = n.level; token = t; position = n.actions }
 
 -- where level j opened
 abbrev pub opening : List ℕ → ℕ → Label
@@ -73,7 +73,7 @@ steps (w ∷ l) T = steps l (step w T)
 
 -- before the first event: the top level is open
 abbrev pub start : List ℕ → List ℕ → Naming
-start ws ns = naming (set ws 0 (label_word (record { level = 0; token = 0; position = 0; twice = false }))) ns (record { level = 0; levels = 1; labels = 0; actions = 0 })
+start ws ns = naming (set ws 0 (label_word (record { level = 0; token = 0; position = 0 }))) ns (record { level = 0; levels = 1; labels = 0; actions = 0 })
 
 -- what `collect` leaves
 pub record Collects (log ws ns ws' ns' : List ℕ) : Type 0 where

@@ -44,7 +44,6 @@ fn put_here(table: &mut [u64], at: usize, n: Namer, token: usize)
         level: n.level,
         token,
         position: n.actions,
-        twice: false,
     };
     put_label(table, at, place);
 }
@@ -111,7 +110,6 @@ fn collect(log: &[u64], own: &mut [u64], named: &mut [u64])
         level: 0,
         token: 0,
         position: 0,
-        twice: false,
     };
     put_label(own, 0, top);
     let mut n = Namer {

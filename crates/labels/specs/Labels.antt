@@ -1,5 +1,5 @@
 -- Labels brought together.
-use Rattle.std.specs.Prelude.{◌≡◌, Bool, true, cond, List, [], ◌∷◌, ◌++◌, ℕ, suc, length, take, drop}
+use Rattle.std.specs.Prelude.{◌≡◌, Bool, cond, List, [], ◌∷◌, ◌++◌, ℕ, suc, length, take, drop}
 use Rattle.entries.specs.Entries.{label_word, label_of}
 use Rattle.label_names.specs.Names.{name_of, is_named}
 
@@ -7,9 +7,9 @@ use Rattle.label_names.specs.Names.{name_of, is_named}
 unfoldable pub is_same : List ℕ → List ℕ → ℕ → ℕ → Bool
 is_same text s w v = is_named text s (label_of w).level (name_of text s w) v
 
--- v at the position of w, written more than once
+-- v at the position of w
 abbrev pub moved : ℕ → ℕ → ℕ
-moved w v = label_word (record { level = (label_of v).level; token = (label_of v).token; position = (label_of w).position; twice = true })
+moved w v = label_word (record { level = (label_of v).level; token = (label_of v).token; position = (label_of w).position })
 
 -- the place of the first label that is the same as w, or how many there are
 abbrev pub first_same : List ℕ → List ℕ → ℕ → List ℕ → ℕ

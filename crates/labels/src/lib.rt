@@ -153,7 +153,7 @@ fn find_label(
     }
 }
 
-// The label v at the position of w: it was written more than once.
+// The label v at the position of w.
 fn move_label(w: u64, v: u64) -> u64
     ensures { result ≡ moved w v }
 {
@@ -162,7 +162,6 @@ fn move_label(w: u64, v: u64) -> u64
         level: kept.level,
         token: kept.token,
         position: label_of(w).position,
-        twice: true,
     };
     label_word(label)
 }

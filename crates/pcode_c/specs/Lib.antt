@@ -1,3 +1,2 @@
 pub mod ReadFor
 pub mod ExportFor
-pub mod MarksFor

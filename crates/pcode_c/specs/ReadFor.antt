@@ -1,4 +1,4 @@
--- What `pcode_read` returns and writes. `pcode_export` has `ExportFor`, `pcode_mark_labels` `MarksFor`; the other calls' contracts cite `c_tokens` and `c_entries` alone.
+-- What `pcode_read` returns and writes. `pcode_export` has `ExportFor`; the other calls' contracts cite `c_tokens` and `c_entries` alone.
 use Rattle.std.specs.Prelude.{◌≡◌, List, ℕ}
 use Rattle.c_entries.specs.Entries.{read_number, read_after}
 use Rattle.handover.specs.declared.Reading.{Reading}

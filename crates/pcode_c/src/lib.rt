@@ -13,7 +13,6 @@ ghost use Rattle.c_tokens.specs.Places.{name_of, word_after, place_after};
 ghost use Rattle.c_entries.specs.Entries.{action_after, operand_after, level_after, height_after, label_after};
 ghost use Rattle.pcode_c.specs.ReadFor.{ReadFor};
 ghost use Rattle.pcode_c.specs.ExportFor.{ExportFor};
-ghost use Rattle.pcode_c.specs.MarksFor.{MarksFor};
 
 use tokens::Span;
 
@@ -62,23 +61,6 @@ pub extern "C" fn pcode_export(
     c_export::tell_export(answer, told)
 }
 
-#[unsafe(no_mangle)]
-pub extern "C" fn pcode_mark_labels(
-    text: &[u8],
-    tokens: &mut [u64],
-    actions: &mut [u64],
-    operands: &mut [u64],
-    levels: &mut [u64],
-    labels: &mut [u64],
-    marks: &mut [u64],
-    out: &mut [u64; 5],
-) -> u64
-    ensures { MarksFor text.now (lent tokens.old actions.old operands.old levels.old labels.old) (lent tokens.new actions.new operands.new levels.new labels.new) marks.old marks.new out.old out.new result }
-{
-    let answer = label_marks::mark_labels(text, tokens, actions, operands, levels, labels, marks);
-    c_entries::tell_reading(answer, out)
-}
-
 // ---- the entry of a table's word, a level's of its two
 
 #[unsafe(no_mangle)]
@@ -111,7 +93,7 @@ pub extern "C" fn pcode_level(words: &[u64; 2], out: &mut [u64; 6], height: &mut
 }
 
 #[unsafe(no_mangle)]
-pub extern "C" fn pcode_label(word: u64, out: &mut [u64; 4])
+pub extern "C" fn pcode_label(word: u64, out: &mut [u64; 3])
     ensures { out.new ≡ label_after (label_of word) out.old }
 {
     c_entries::tell_label(entries::label_of(word), out)

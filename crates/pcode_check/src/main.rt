@@ -4,7 +4,6 @@
 use as2_pcode::{Counts, Reading};
 use files::{Input, Outcome, Tally};
 use libc::{STDERR_FILENO, STDOUT_FILENO};
-use lookups::words_from;
 use printing::{print_number, print_text};
 use reporting::print_name;
 use std::num::wrapping_add_u64;
@@ -15,34 +14,6 @@ fn print_ok(name: &[u8], c: Counts) {
     reporting::print_counts(c.actions, c.operands, c.levels, c.labels);
 }
 
-// What another program shows.
-fn print_findings(name: &[u8], n: u64) {
-    if 0 < n {
-        print_name(STDOUT_FILENO, name);
-        print_text(b": ");
-        reporting::print_count(n, b"finding");
-        print_text(b" on labels and jumps, which pcode-labels shows\n");
-    }
-}
-
-fn print_read(
-    name: &[u8],
-    text: &[u8],
-    tokens: &[u64],
-    actions: &[u64],
-    operands: &[u64],
-    labels: &[u64],
-    marks: &[u64],
-    c: Counts,
-) -> Outcome {
-    print_ok(name, c);
-    let actions = words_from(actions, 0, c.actions);
-    let labels = words_from(labels, 0, c.labels);
-    let found = findings::count_findings(text, tokens, actions, operands, labels, marks);
-    print_findings(name, findings::all(found));
-    Outcome::Read(reporting::print_warnings(name, text, tokens, operands, c.operands))
-}
-
 // An entry of each table but the tokens' takes two bytes of text or more, the top level none. That of a level has two words.
 fn check_text(name: &[u8], text: &[u8]) -> Outcome {
     let mut tokens = [0u64; 65536];
@@ -50,20 +21,19 @@ fn check_text(name: &[u8], text: &[u8]) -> Outcome {
     let mut operands = [0u64; 32769];
     let mut levels = [0u64; 65538];
     let mut labels = [0u64; 32769];
-    let mut marks = [0u64; 32769];
-    let reading = label_marks::mark_labels(
+    let reading = as2_pcode::read(
         text,
         &mut tokens,
         &mut actions,
         &mut operands,
         &mut levels,
         &mut labels,
-        &mut marks,
     );
     match reading {
-        Reading::Read(c) => print_read(
-            name, text, &tokens, &actions, &operands, &labels, &marks, c,
-        ),
+        Reading::Read(c) => {
+            print_ok(name, c);
+            Outcome::Read(reporting::print_warnings(name, text, &tokens, &operands, c.operands))
+        }
         Reading::Refused(r) => {
             reporting::print_refused(STDOUT_FILENO, name, text, &mut tokens, r);
             Outcome::Refused

@@ -1,7 +1,7 @@
 // Replays outside vectors for reading (data/, made by `compare/vectors read`): calls with the answers of an independent
 // implementation of documents 01 and 02. What is expected of a call: the places of the five tables; then a refusal, or 0 and
-// all entries (`entry_records`). Two things of an answer are in the list and passed over until they are here: a level's net by
-// the jumps (document 02, §7) and its label written last (§6).
+// all entries (`entry_records`). Three things of an answer are in the list and passed over until they are here: a level's net
+// by the jumps (document 02, §7), its label written last (§6), and how often a label was written (§3).
 use as2_pcode::Reading;
 use entry_records::{Entries, Totals};
 use fronts::Lent;

@@ -7,7 +7,7 @@ use lib.ListN.{length}
 use Rattle.grammar.specs.Grammar.{Items, done}
 use Rattle.grammar.specs.Reading.{Opened, all_actions, opened}
 use Rattle.grouping.specs.Grouping.{Below, having, grouped}
-use Rattle.entries.specs.Levels.{Small17}
+use Rattle.entries.specs.Levels.{Small}
 use Rattle.reading.specs.Trees.{AllOf, named_of, IsLow}
 use Rattle.reading.proofs.Runs.{Every, runs, runs_high, grouped-same, grouped-all, all_below}
 use Rattle.reading.proofs.Groups.{label_run, NamedLow, labels-own, opened-low, own-few, names_alike}
@@ -15,7 +15,7 @@ use Rattle.reading.proofs.Groups.{label_run, NamedLow, labels-own, opened-low, o
 abbrev pub no_opened : Opened
 no_opened = record { owner = none; first = 0; items = done }
 
-module _ (x : Items) (h : AllOf IsLow x) (g : Small17 (all_actions x)) where
+module _ (x : Items) (h : AllOf IsLow x) (g : Small (all_actions x)) where
   named-low : Every NamedLow (opened x)
   named-low = ((h, omega (arith, g, own-few x)), opened-low x 0 h g)
 

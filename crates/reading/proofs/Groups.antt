@@ -10,7 +10,7 @@ use Rattle.lexemes.specs.Lexemes.{Lexeme, place_of}
 use Rattle.grammar.specs.Grammar.{Items, done, label, action, Blocks, no_blocks, block}
 use Rattle.grammar.specs.Reading.{Opened, Acted, own_actions, all_actions, actions_inside, opened_of, opened_in, acted_of, acted_in}
 use Rattle.grouping.specs.Grouping.{having}
-use Rattle.entries.specs.Levels.{Small17}
+use Rattle.entries.specs.Levels.{Small}
 use Rattle.reading.specs.Trees.{All, AllOf, AllIn, label_with, named_of, named_in, IsLow}
 use Rattle.reading.proofs.Runs.{having-append, OfKey, having_other, swap, Every, every_append, runs, runs_append, runs_low}
 use Rattle.reading.proofs.Trees.{opened-count, opened-counts}
@@ -26,9 +26,9 @@ abbrev pub label_run : ℕ → Opened → List ℕ
 label_run ℓ l = own_words ℓ 0 l.items
 
 abbrev pub NamedLow : Opened → Type 0
-NamedLow l = AllOf IsLow l.items × (Small17 (own_actions l.items))
+NamedLow l = AllOf IsLow l.items × (Small (own_actions l.items))
 
-words-own : (ℓ p : ℕ) (x : Items) → AllOf IsLow x → Small17 (p + own_actions x) → OfKey ℓ (own_words ℓ p x)
+words-own : (ℓ p : ℕ) (x : Items) → AllOf IsLow x → Small (p + own_actions x) → OfKey ℓ (own_words ℓ p x)
 words-own ℓ p done h g = tt
 words-own ℓ p (label t x) h g = let i = h.0 in (omega (arith, i, g), words-own ℓ p x h.1 g)
 words-own ℓ p (action n os bs x) h g = words-own ℓ (suc p) x h.1.1 (omega (arith, g))
@@ -62,7 +62,7 @@ module _ (P : Lexeme → Type 0) where
         every_append GivenAll (acted_of m (suc m) x) (acted_in m' bs) (acted-all x m (suc m) h.0) (acted_alls bs m' h.1)
 
 mutual
-  pub opened-low : (x : Items) (a : ℕ) → AllOf IsLow x → Small17 (all_actions x) → Every NamedLow (opened_of a x)
+  pub opened-low : (x : Items) (a : ℕ) → AllOf IsLow x → Small (all_actions x) → Every NamedLow (opened_of a x)
   opened-low done a h g = tt
   opened-low (label t x) a h g = opened-low x a h.1 g
   opened-low (action n os bs x) a h g =
@@ -70,7 +70,7 @@ mutual
       every_append NamedLow (opened_in a (suc a) bs) (opened_of a' x)
       (opened_lows bs a (suc a) h.1.0 (omega (arith, g))) (opened-low x a' h.1.1 (omega (arith, g)))
 
-  opened_lows : (bs : Blocks) (o a : ℕ) → AllIn IsLow bs → Small17 (actions_inside bs) → Every NamedLow (opened_in o a bs)
+  opened_lows : (bs : Blocks) (o a : ℕ) → AllIn IsLow bs → Small (actions_inside bs) → Every NamedLow (opened_in o a bs)
   opened_lows no_blocks o a h g = tt
   opened_lows (block p x bs) o a h g =
       let a' = a + all_actions x in (
@@ -104,7 +104,7 @@ module _ (k : ℕ) where
   -- ---- labels: those of a level before those of its blocks
 
   mutual
-    pub names_alike : (x : Items) (ℓ m a p : ℕ) → ℓ < m → AllOf IsLow x → Small17 (p + all_actions x)
+    pub names_alike : (x : Items) (ℓ m a p : ℕ) → ℓ < m → AllOf IsLow x → Small (p + all_actions x)
         → having k (named_of ℓ m p x) ≡ having k (own_words ℓ p x ++ runs label_run m (opened_of a x))
     names_alike done ℓ m a p l h g = refl
     names_alike (label t x) ℓ m a p l h g =
@@ -126,7 +126,7 @@ module _ (k : ℕ) where
         ∙ ap (λ (q : ℕ). having k (own ++ (inner ++ runs label_run (m + q) (opened_of a' x)))) (sym e)
         ∙ ap (λ (q : List ℕ). having k (own ++ q)) (sym (runs_append label_run m (opened_in a (suc a) bs) (opened_of a' x)))
 
-    names_in : (bs : Blocks) (m o a : ℕ) → AllIn IsLow bs → Small17 (actions_inside bs)
+    names_in : (bs : Blocks) (m o a : ℕ) → AllIn IsLow bs → Small (actions_inside bs)
         → having k (named_in m bs) ≡ having k (runs label_run m (opened_in o a bs))
     names_in no_blocks m o a h g = refl
     names_in (block p x bs) m o a h g =

@@ -14,7 +14,7 @@ use Rattle.grammar.specs.Reading.{Opened, own_actions, all_actions, actions_insi
 use Rattle.classes.specs.Lexemes.{lexeme_of}
 use Rattle.entries.specs.declared.Label as D
 use Rattle.entries.specs.Entries.{label_word, label_of}
-use Rattle.entries.specs.Levels.{Small, Small17}
+use Rattle.entries.specs.Levels.{Small}
 use Rattle.entries.proofs.Words.{label_back}
 use Rattle.label_names.specs.Names.{name_of}
 use Rattle.labels.specs.Labels.{is_same, moved, placed, merged}
@@ -42,7 +42,7 @@ module _ (text s : List ℕ) where
   -- a level whose labels' words can be told apart
   pub record Sound (l : Opened) : Type 0 where
     pub named : Named l.items
-    pub few : Small17 (own_actions l.items)
+    pub few : Small (own_actions l.items)
 
   -- ---- the parts of a label's word
 
@@ -50,7 +50,7 @@ module _ (text s : List ℕ) where
   record Own (ℓ : ℕ) (l : R.Label) : Type 0 where
     level : l.level ≡ ℓ
     name : Found l.name
-    position : Small17 l.position
+    position : Small l.position
 
   module _ (ℓ : ℕ) (l : R.Label) (o : Own ℓ l) where
     back : label_of (label_entry_word l) ≡ label_entry l
@@ -71,11 +71,11 @@ module _ (text s : List ℕ) where
         ∙ (λ i. same_name (name-is ℓ l o i) (name-is ℓ k h i))
 
     again : R.Label → R.Label
-    again k = record { level = k.level; name = k.name; position = l.position; twice = true }
+    again k = record { level = k.level; name = k.name; position = l.position }
 
     moved_word : (k : R.Label) → Own ℓ k → moved (label_entry_word l) (label_entry_word k) ≡ label_entry_word (again k)
     unfolding again
-    moved_word k h = λ i. label_word (record { level = (back ℓ k h i).level; token = (back ℓ k h i).token; position = (back ℓ l o i).position; twice = true })
+    moved_word k h = λ i. label_word (record { level = (back ℓ k h i).level; token = (back ℓ k h i).token; position = (back ℓ l o i).position })
 
     place-words : (ks : List R.Label) → Every (Own ℓ) ks → placed text s (label_entry_word l) (map label_entry_word ks) ≡ map label_entry_word (place l ks)
     unfolding again
@@ -109,20 +109,20 @@ module _ (text s : List ℕ) where
   abbrev Lower : ℕ → List ℕ → Type 0
   Lower ℓ ws = Every (λ (w : ℕ). (label_of w).level < ℓ) ws
 
-  merged-own : (ℓ : ℕ) (front : List ℕ) → Lower ℓ front → (x : Items) (p : ℕ) (ks : List R.Label) → Named x → Small17 (p + own_actions x) → Every (Own ℓ) ks
+  merged-own : (ℓ : ℕ) (front : List ℕ) → Lower ℓ front → (x : Items) (p : ℕ) (ks : List R.Label) → Named x → Small (p + own_actions x) → Every (Own ℓ) ks
       → merged text s (front ++ map label_entry_word ks) (own_words ℓ p x) ≡ front ++ map label_entry_word (own_labels ℓ p ks x)
   merged-own ℓ front f done p ks h g o = refl
   merged-own ℓ front f (label t x) p ks h g o =
-      let l : R.Label = record { level = ℓ; name = t; position = p; twice = false } in
+      let l : R.Label = record { level = ℓ; name = t; position = p } in
       let own : Own ℓ l = record { level = refl; name = h.0; position = omega (arith, g) } in
       ap (λ (q : List ℕ). merged text s q (own_words ℓ p x)) (pass ℓ l own front (map label_entry_word ks) f ∙ ap (λ (q : List ℕ). front ++ q) (place-words ℓ l own ks o))
       ∙ merged-own ℓ front f x p (place l ks) h.1 g (place-own ℓ l own ks o)
   merged-own ℓ front f (action n os bs x) p ks h g o = merged-own ℓ front f x (suc p) ks h (omega (arith, g)) o
 
-  labels-own : (ℓ : ℕ) (x : Items) (p : ℕ) (ks : List R.Label) → Named x → Small17 (p + own_actions x) → Every (Own ℓ) ks → Every (Own ℓ) (own_labels ℓ p ks x)
+  labels-own : (ℓ : ℕ) (x : Items) (p : ℕ) (ks : List R.Label) → Named x → Small (p + own_actions x) → Every (Own ℓ) ks → Every (Own ℓ) (own_labels ℓ p ks x)
   labels-own ℓ done p ks h g o = o
   labels-own ℓ (label t x) p ks h g o =
-      let l : R.Label = record { level = ℓ; name = t; position = p; twice = false } in
+      let l : R.Label = record { level = ℓ; name = t; position = p } in
       labels-own ℓ x p (place l ks) h.1 g (place-own ℓ l (record { level = refl; name = h.0; position = omega (arith, g) }) ks o)
   labels-own ℓ (action n os bs x) p ks h g o = labels-own ℓ x (suc p) ks h (omega (arith, g)) o
 
@@ -141,7 +141,7 @@ module _ (text s : List ℕ) where
   merged-from [] ℓ front f h = sym (append-nil front)
   merged-from (l ∷ ls) ℓ front f h =
       let x = l.items in
-      let g : Small17 (0 + own_actions x) = omega (arith, h.0.few) in
+      let g : Small (0 + own_actions x) = omega (arith, h.0.few) in
       let own = own_labels ℓ 0 [] x in
       let rest = labels_from (suc ℓ) ls in
       let low : Lower (suc ℓ) (front ++ map label_entry_word own) =
@@ -165,7 +165,7 @@ module _ (text s : List ℕ) where
   all_named (action n os bs x) h = all_named x h.1.1
 
   mutual
-    sound-of : (x : Items) (a : ℕ) → AllOf Found x → Small17 (all_actions x) → Every Sound (opened_of a x)
+    sound-of : (x : Items) (a : ℕ) → AllOf Found x → Small (all_actions x) → Every Sound (opened_of a x)
     sound-of done a h g = tt
     sound-of (label t x) a h g = sound-of x a h.1 g
     sound-of (action n os bs x) a h g =
@@ -173,7 +173,7 @@ module _ (text s : List ℕ) where
         every_append Sound (opened_in a (suc a) bs) (opened_of a' x)
         (sound_in bs a (suc a) h.1.0 (omega (arith, g))) (sound-of x a' h.1.1 (omega (arith, g)))
 
-    sound_in : (bs : Blocks) (o a : ℕ) → AllIn Found bs → Small17 (actions_inside bs) → Every Sound (opened_in o a bs)
+    sound_in : (bs : Blocks) (o a : ℕ) → AllIn Found bs → Small (actions_inside bs) → Every Sound (opened_in o a bs)
     sound_in no_blocks o a h g = tt
     sound_in (block p x bs) o a h g =
         let a' = a + all_actions x in (
@@ -181,5 +181,5 @@ module _ (text s : List ℕ) where
           every_append Sound (opened_of a x) (opened_in o a' bs) (sound-of x a h.0 (omega (arith, g))) (sound_in bs o a' h.1 (omega (arith, g))),
         )
 
-  pub all_sound : (x : Items) → AllOf Found x → Small17 (all_actions x) → Every Sound (opened x)
+  pub all_sound : (x : Items) → AllOf Found x → Small (all_actions x) → Every Sound (opened x)
   all_sound x h g = (record { named = all_named x h; few = omega (arith, g, own-few x) }, sound-of x 0 h g)

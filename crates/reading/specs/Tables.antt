@@ -51,7 +51,7 @@ level_entries (l ∷ ls) (n ∷ ns) =
     record { block = block_of l.owner; actions = l.actions; net = net_entry n; unclosed = l.unclosed } ∷ level_entries ls ns
 
 abbrev pub label_entry : R.Label → Label
-label_entry l = record { level = l.level; token = place_of l.name; position = l.position; twice = l.twice }
+label_entry l = record { level = l.level; token = place_of l.name; position = l.position }
 
 -- ---- their words, at the front of a table
 

@@ -1,14 +1,14 @@
 -- What is in a tree, as words in the order of the text, and what holds of every token in it.
-use Rattle.std.specs.Prelude.{false, List, [], ◌∷◌, ◌++◌, ℕ, suc, ◌+◌, length}
+use Rattle.std.specs.Prelude.{List, [], ◌∷◌, ◌++◌, ℕ, suc, ◌+◌, length}
 use Rattle.lexemes.specs.Lexemes.{Lexeme, place_of}
 use Rattle.grammar.specs.Grammar.{Items, done, label, action, Blocks, no_blocks, block}
 use Rattle.grammar.specs.Reading.{opened_of, opened_in}
 use Rattle.entries.specs.Entries.{label_word}
 use Rattle.events.specs.Log.{Holdable}
 
--- the word of a label as it is written at that position
+-- the word of a label, written at that position
 abbrev pub label_with : ℕ → ℕ → ℕ → ℕ
-label_with ℓ t p = label_word (record { level = ℓ; token = t; position = p; twice = false })
+label_with ℓ t p = label_word (record { level = ℓ; token = t; position = p })
 
 abbrev mutual
   -- labels of level ℓ and of its blocks, of which the next is level m

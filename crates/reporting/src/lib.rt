@@ -94,7 +94,7 @@ fn has_place(r: Refusal) -> bool {
     }
 }
 
-pub fn print_place(fd: i32, line: usize, column: usize) {
+fn print_place(fd: i32, line: usize, column: usize) {
     write_text(fd, b":");
     write_number(fd, line as u64);
     write_text(fd, b":");

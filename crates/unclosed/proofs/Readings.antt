@@ -98,12 +98,12 @@ module _ (At : ℕ → ℕ → Type 0) where
   place_alike {l = l} {m = m} h (next {a = k} {b = j} g e) =
       either_alike (same_name (raw l.name) (raw k.name)) (same_name (raw m.name) (raw j.name))
       (λ i. same_name (raw_alike h.name i) (raw_alike g.name i))
-      (next (record { level = g.level; name = g.name; position = h.position; twice = refl }) e) (next g (place_alike h e))
+      (next (record { level = g.level; name = g.name; position = h.position }) e) (next g (place_alike h e))
 
   own-labels : {x y : Items} (ℓ p : ℕ) {ks js : List Label} → AlikeItems At x y → Each (LabelAlike At) ks js
       → Each (LabelAlike At) (own_labels ℓ p ks x) (own_labels ℓ p js y)
   own-labels ℓ p ends e = e
-  own-labels ℓ p (names t h) e = own-labels ℓ p h (place_alike (record { level = refl; name = t; position = refl; twice = refl }) e)
+  own-labels ℓ p (names t h) e = own-labels ℓ p h (place_alike (record { level = refl; name = t; position = refl }) e)
   own-labels ℓ p (acts o bs h) e = own-labels ℓ (suc p) h e
 
   labels_alike : (ℓ : ℕ) {ls ms : List Opened} → Each OpenedAlike ls ms → Each (LabelAlike At) (labels_from ℓ ls) (labels_from ℓ ms)

@@ -39,7 +39,6 @@ module _ (At : ℕ → ℕ → Type 0) where
     pub level : l.level ≡ k.level
     pub name : Alike l.name k.name
     pub position : l.position ≡ k.position
-    pub twice : l.twice ≡ k.twice
 
   pub record ReadingAlike (R Q : Reading) : Type 0 where
     pub actions : R.actions ≡ Q.actions

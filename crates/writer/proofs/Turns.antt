@@ -98,8 +98,8 @@ module _ (T : Tables) (y : Style) (l : Tree) (n a m : ℕ) (place₀ out₀ : Li
         (omega arith, omega arith)
 
     -- the place of position k, stored
-    marked-long : (marked : List ℕ) → marked ≡ set place k (byte * 1048576 + act) → length marked ≡ length place
-    marked-long marked e = ap length e ∙ length-set place k (byte * 1048576 + act)
+    marked_long : (marked : List ℕ) → marked ≡ set place k (byte * 1048576 + act) → length marked ≡ length place
+    marked_long marked e = ap length e ∙ length-set place k (byte * 1048576 + act)
 
     marks : (marked : List ℕ) → marked ≡ set place k (byte * 1048576 + act) → (j : ℕ) → j ≤ k → k < length place → get_or marked j 0 ≡ place_of a l j
     marks marked e j h r = ap (λ (x : List ℕ). get_or x j 0) e ∙ by (eq-or-lt_of_le {n = j} {m = k} h)
@@ -124,7 +124,7 @@ module _ (T : Tables) (y : Style) (l : Tree) (n a m : ℕ) (place₀ out₀ : Li
       asked =
           let o = turn in
           let lo = ap length (to_the_end marked (n + 1)) ∙ length-drop (n + 1) marked in
-          let ml = marked-long marked em in
+          let ml = marked_long marked em in
           let gl = g.long in
           let qr = q.room in
           let qf = q.few in
@@ -186,7 +186,7 @@ module _ (T : Tables) (y : Style) (l : Tree) (n a m : ℕ) (place₀ out₀ : Li
             let e₁ = ap (levels_before l) (add-one k) in
             let e₂ = ap (start l) (add-one k) in
             let r = roomy in
-            let ml = marked-long marked em in
+            let ml = marked_long marked em in
             let lu = length_unaimed l k in
             let whole = with_blocks o.blocks o.piece.head ++ bytes_in o.blocks in
             record {
@@ -202,7 +202,7 @@ module _ (T : Tables) (y : Style) (l : Tree) (n a m : ℕ) (place₀ out₀ : Li
                   lent_back out z whole byte s es v.bytes ∙ ap (λ (x : List ℕ). sets x byte whole) g.bytes
                   ∙ joined (unaimed l k) out₀ whole 0 byte (omega arith)
                   ∙ ap (sets out₀ 0) (sym o.bytes ∙ sym (ap (unaimed l) (add-one k)));
-              long = el ∙ marked-long marked em ∙ g.long;
+              long = el ∙ marked_long marked em ∙ g.long;
               places =
                   λ j h.
                   before-part marked z' (n + 1) j (omega arith) (omega arith)

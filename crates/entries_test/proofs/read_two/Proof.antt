@@ -1,15 +1,14 @@
 -- `entries_test::read_two` is safe: a walk of its MIR, by hand. The array of two labels is lent to the reading, comes back, and
 -- is lent to the look-ups. Assumes nothing.
 use mathlib.Core.Path.{◌≡◌, refl, sym, subst}
-use mathlib.Core.Bool.{true}
 use Prim.Native.Nat.{ℕ}
 use mathlib.Core.List.{[], ◌∷◌, List}
 use lib.Dec.{lit<}
 use lib.ListN.{length}
 use seplogic.Ra.Ura.{Ura}
 use seplogic.Ra.TreeShare.{full_share}
-use mir.Syntax.{Fn, named, erased, imm, mut, w8, w64, ty_int, ty_unit, ty_ref, ty_array, place, copy, int, opd_true, opd_unit, rv_opd, addr_of, aggregate, repeat, seq, assign, call, return, local, value_local, memory_slot}
-use mir.Val.{Val, vunit, vint, vbool}
+use mir.Syntax.{Fn, named, erased, imm, mut, w8, w64, ty_int, ty_unit, ty_ref, ty_array, place, copy, int, opd_unit, rv_opd, addr_of, aggregate, repeat, seq, assign, call, return, local, value_local, memory_slot}
+use mir.Val.{Val, vunit, vint}
 use base.Logic.{SProp, ent, sep, emp, via, fst∗, id⊢}
 use base.Fml.{Lft, Share, GName, Fml, ftrue, fat, froom, flft, flent}
 use prog.Memory.{Memory}
@@ -22,7 +21,7 @@ use contract.Running.{tables, tables_of}
 use contract.Lifetimes.{Lfts, Shares}
 use types.Kit.{Item, ‵, raw, some, later, mean, ◌⊛◌, ⋆, ◌$◌, ◌∵◌, !, qed, by, move, keep, drop, use1, use2, use3, split, join, pick, rewrite, fsplit, fjoin, feq_l, feq_i, suffices, frame, await, done}
 use types.Tokens.{lft_new, lft_end, lent_back}
-use types.Run.{look, init, forget, stop, hop, fld, from, load, lit, true_lit, unit_lit, addr, of_opd, no_more, and_then, assigns, land, returns, enter, alloc1, alloc0, params1, pass1, pass0, free1, free0}
+use types.Run.{look, init, forget, stop, hop, fld, from, load, lit, unit_lit, addr, of_opd, no_more, and_then, assigns, land, returns, enter, alloc1, alloc0, params1, pass1, pass0, free1, free0}
 use types.Part.{agg, rep, whole, sub, look_in}
 use types.SemTy.{cells, Arr}
 use types.Share.{arr_parts}
@@ -86,7 +85,7 @@ function = record {
   params = 7;
   locals = local ty_unit value_local ∷ local (slice_ty (ty_ref (named 0) imm (ty_int w8))) value_local ∷ local (slice_ty (ty_ref (named 1) imm word)) value_local ∷ local (slice_ty (ty_ref (named 2) imm (ty_int w8))) value_local ∷ local (table_ty 3) value_local ∷ local (table_ty 4) value_local ∷ local (table_ty 5) value_local ∷ local (table_ty 6) value_local ∷ local entry_ty value_local ∷ local (ty_array entry_ty 2) memory_slot ∷ local answer_ty value_local ∷ local (slice_ty (ty_ref erased imm (pointee Entry.written))) value_local ∷ local entry_ty value_local ∷ local entry_ty value_local ∷ local F'.mir value_local ∷ local word_ref value_local ∷ local (slice_ty word_ref) value_local ∷ local word_ref value_local ∷ local (slice_ty word_ref) value_local ∷ local word_ref value_local ∷ local (slice_ty word_ref) value_local ∷ local word_ref value_local ∷ local (slice_ty word_ref) value_local ∷ local (ty_ref erased mut (ty_array (pointee Entry.written) 2)) value_local ∷ local (slice_ty entry_ref) value_local ∷ local (ty_ref erased imm (ty_array (pointee Entry.written) 2)) value_local ∷ local ty_unit value_local ∷ [];
   body =
-      seq (assign (place 8 []) (aggregate (int w64 9 ∷ int w64 9 ∷ int w64 9 ∷ opd_true ∷ [])))
+      seq (assign (place 8 []) (aggregate (int w64 9 ∷ int w64 9 ∷ int w64 9 ∷ [])))
       (seq (assign (place 9 []) (repeat (copy (place 8 [])) 2))
       (lends 4 15 16 (lends 5 17 18 (lends 6 19 20 (lends 7 21 22
       (seq (assign (place 23 []) (addr_of (place 9 [])))
@@ -102,11 +101,10 @@ function = record {
 }
 
 abbrev mark : Label
-mark = record { level = 9; token = 9; position = 9; twice = true }
+mark = record { level = 9; token = 9; position = 9 }
 
 mark-is : Is Entry mark (mach mark ∷ [])
-mark-is =
-    ((vint w64 9 ∷ [], (vint w64 9 ∷ [], (vint w64 9 ∷ [], (vbool true ∷ [], tt)))), (refl, ((refl, lit< tt), ((refl, lit< tt), ((refl, lit< tt), (refl, tt))))))
+mark-is = ((vint w64 9 ∷ [], (vint w64 9 ∷ [], (vint w64 9 ∷ [], tt))), (refl, ((refl, lit< tt), ((refl, lit< tt), ((refl, lit< tt), tt)))))
 
 abbrev marks : List Label
 marks = mark ∷ mark ∷ []
@@ -290,7 +288,7 @@ module _ {M : Type 1} {𝓤 : Ura M} (𝓛 : Logic 𝓤) (mem : Memory → SProp
         alloc1 ! (λ l₀. alloc1 ! (λ l₁. alloc1 ! (λ l₂. alloc1 ! (λ l₃. alloc1 ! (λ l₄. alloc1 ! (λ l₅. alloc1 ! (λ l₆. alloc1 ! (λ l₇. alloc1 ! (λ l₈. alloc1 ! (λ l₉. alloc1 ! (λ l₁₀. alloc1 ! (λ l₁₁. alloc1 ! (λ l₁₂. alloc1 ! (λ l₁₃. alloc1 ! (λ l₁₄. alloc1 ! (λ l₁₅. alloc1 ! (λ l₁₆. alloc1 ! (λ l₁₇. alloc1 ! (λ l₁₈. alloc1 ! (λ l₁₉. alloc1 ! (λ l₂₀. alloc1 ! (λ l₂₁. alloc1 ! (λ l₂₂. alloc1 ! (λ l₂₃. alloc1 ! (λ l₂₄. alloc1 ! (λ l₂₅. alloc1 ! (λ l₂₆. alloc0 ! $ params1 ! $
         pass1 ! (init ! 50 refl (tt, (tt, (record { fits = x-room.0 }, tt)))) $ pass1 ! (init ! 48 refl (tt, (tt, (record { fits = lx-room.0 }, tt)))) $ pass1 ! (init ! 46 refl (tt, (tt, (record { fits = nm-room.0 }, tt)))) $ pass1 ! (init ! 44 refl (tt, (tt, (record { fits = y₁-room.0 }, tt)))) $ pass1 ! (init ! 42 refl (tt, (tt, (record { fits = y₂-room.0 }, tt)))) $ pass1 ! (init ! 40 refl (tt, (tt, (record { fits = y₃-room.0 }, tt)))) $ pass1 ! (init ! 38 refl (tt, (tt, (record { fits = y₄-room.0 }, tt)))) $ pass0 ! $
         -- [_26; …; _0; …; the tokens; what the parameters own]
-        assigns ! (agg ! (and_then ! (lit ! tt) (and_then ! (lit ! tt) (and_then ! (lit ! tt) (and_then ! (true_lit !) (no_more !)))))) (from ! (stop !)) (init ! 36 refl (typed 𝓛 mark mark-is)) $
+        assigns ! (agg ! (and_then ! (lit ! tt) (and_then ! (lit ! tt) (and_then ! (lit ! tt) (no_more !))))) (from ! (stop !)) (init ! 36 refl (typed 𝓛 mark mark-is)) $
         assigns ! (rep ! 2 (load ! (from ! (stop !)) (look ! 36 refl))) (from ! (stop !)) (init ! 34 refl (repeat_typed 𝓛 Entry (lawful 𝓛) 2 mark (mach mark) mark-is)) $
         assigns ! (addr ! (from ! (fld ! refl (hop ! (look_in ! 44 (sub ! 0 refl (whole !))) (stop !))))) (from ! (stop !)) (init ! 22 refl (tt, tt)) $
         assigns ! (agg ! (and_then ! (load ! (from ! (stop !)) (look ! 22 refl)) (and_then ! (load ! (from ! (fld ! refl (stop !))) (look_in ! 44 (sub ! 1 refl (whole !)))) (no_more !)))) (from ! (stop !)) (init ! 20 refl (tt, (tt, (record { fits = y₁-room.0 }, tt)))) $

@@ -1,8 +1,7 @@
 -- `label_entries::label_at` meets its contract: a walk of its MIR, by hand. Within the slice the borrow is looked into, the
--- element is copied out and put back, and the borrow is shut; past the end the label is made of three zeros and a false.
+-- element is copied out and put back, and the borrow is shut; past the end the label is made of three zeros.
 -- Assumes nothing.
 use mathlib.Core.Path.{◌≡◌, refl, sym}
-use mathlib.Core.Bool.{false}
 use Prim.Native.Nat.{ℕ, ◌<◌, ◌≤◌, ◌*◌, ◌^◌}
 use native.Mathlib.Omega.{arith}
 use mathlib.Core.List.{[], ◌∷◌, List}
@@ -11,7 +10,7 @@ use lib.ListN.{length, get_or, get_or-eq_default}
 use seplogic.Ra.Ura.{Ura}
 use seplogic.Ra.TreeShare.{full_share}
 use package.mir.Syntax.{named, imm, w64, ty_int, ty_bool, ty_ptr, ty_ref}
-use package.mir.Val.{Val, vint, vbool, vptr}
+use package.mir.Val.{Val, vint, vptr}
 use base.Logic.{SProp, ent, via, fst∗, emp}
 use base.Fml.{Lft, Share, GName, ftrue, fat, flft}
 use prog.Memory.{Memory}
@@ -21,7 +20,7 @@ use types.Logic.{Logic}
 use contract.Monad.{Fun}
 use contract.Running.{tables, tables_of}
 use types.Kit.{‵, ◌⊛◌, ⋆, at_ret, ◌$◌, ◌∵◌, !, qed, by, move, keep, split, join, rewrite, fsplit, fjoin, suffices, frame, done}
-use types.Run.{look, look_raw, init, forget, stop, hop, fld, from, load, lit, false_lit, of_opd, bin, no_more, and_then, assigns, first, branches, skips, exec, returns, returns_within, enter, alloc1, alloc0, params1, pass1, pass0, free1, free0}
+use types.Run.{look, look_raw, init, forget, stop, hop, fld, from, load, lit, of_opd, bin, no_more, and_then, assigns, first, branches, skips, exec, returns, returns_within, enter, alloc1, alloc0, params1, pass1, pass0, free1, free0}
 use types.Part.{agg, whole, sub, look_in}
 use sound.WpLaws.{WpFn-mono}
 use denote.RattleType.{owns}
@@ -55,8 +54,7 @@ past : (ys : List Label) (i : ℕ) → length ys ≤ i → no_label ≡ get_or y
 past ys i h = sym (get_or-eq_default ys no_label h)
 
 none_is : Is Entry no_label (vals no_label)
-none_is =
-    ((vint w64 0 ∷ [], (vint w64 0 ∷ [], (vint w64 0 ∷ [], (vbool false ∷ [], tt)))), (refl, ((refl, lit< tt), ((refl, lit< tt), ((refl, lit< tt), (refl, tt))))))
+none_is = ((vint w64 0 ∷ [], (vint w64 0 ∷ [], (vint w64 0 ∷ [], tt))), (refl, ((refl, lit< tt), ((refl, lit< tt), ((refl, lit< tt), tt)))))
 
 module _ {M : Type 1} {𝓤 : Ura M} (𝓛 : Logic 𝓤) (mem : Memory → SProp 𝓤) (run : Routine → Fun 𝓤) (κ : Lft) (q : Share) (b o : ℕ) (γ : GName) (ys : List Label) (i : ℕ) (room : Room Entry (length ys)) (i_fits : i < 2 ^ 64) where
   open 𝓛 use {H}
@@ -90,7 +88,7 @@ module _ {M : Type 1} {𝓤 : Ura M} (𝓛 : Logic 𝓤) (mem : Memory → SProp
     abbrev E : (l₀ l₁ l₂ l₃ l₄ l₅ l₆ l₇ : ℕ) → Env 𝓤 H
     E l₀ l₁ l₂ l₃ l₄ l₅ l₆ l₇ = (entry_ty, l₀) ∷ (slice_ty (ty_ref (named 0) imm (pointee Entry.written)), l₁) ∷ (ty_int w64, l₂) ∷ (ty_int w64, l₃) ∷ (ty_bool, l₄) ∷ (ty_int w64, l₅) ∷ (ty_ptr, l₆) ∷ (entry_ty, l₇) ∷ []
 
-    step_fits : i < n → i * 32 < 2 ^ 64
+    step_fits : i < n → i * 24 < 2 ^ 64
     step_fits within = omega (arith, within, room.1)
 
     walk : ent 𝓤 (on_entry 𝓛 label_at.signature (κ, tt) (q, tt) a passed) (WpFn 𝓤 H C Λ code.function (slice_val (b, o) n ∷ vint w64 i ∷ []) Post)
@@ -107,7 +105,7 @@ module _ {M : Type 1} {𝓤 : Ura M} (𝓛 : Logic 𝓤) (mem : Memory → SProp
         first ! $ branches ! (load ! (from ! (stop !)) (look ! 12 refl)) (λ y. let within : i < n = ltb→lt i n y in
         assigns ! (bin ! (load ! (from ! (stop !)) (look ! 16 refl)) (lit ! tt) (record { fits = step_fits within })) (from ! (stop !)) (init ! 10 refl (tt, record { fits = step_fits within })) $
         assigns ! (bin ! (load ! (from ! (fld ! refl (stop !))) (look_in ! 18 (sub ! 0 refl (whole !)))) (load ! (from ! (stop !)) (look ! 10 refl)) tt) (from ! (stop !)) (init ! 8 refl (tt, tt)) $
-        rewrite ! 8 (λ (p : ℕ). ‵ (fat full_share ty_ptr l₆ 0 (vptr b p))) (sym (place_is 32 o i)) refl $
+        rewrite ! 8 (λ (p : ℕ). ‵ (fat full_share ty_ptr l₆ 0 (vptr b p))) (sym (place_is 24 o i)) refl $
         looks_slice ! tt Entry (Is Entry) (shows 𝓛 Entry) vals tells (copies 𝓛) ys b o (λ q'. elem_out ! Entry (Is Entry) (shows 𝓛 Entry) vals tells q' ys i no_label b o within (λ g.
         -- [labels[at]; what it owns; the others; what shuts; the fractured borrow; the slice's fact; res; true; at's; _7; …]
         assigns ! (of_opd ! (load ! (from ! (hop ! (look ! 11 refl) (stop !))) (look_raw ! 0 {τ = entry_ty} refl))) (from ! (stop !)) (init ! 9 refl (typed 𝓛 _ g)) $
@@ -117,7 +115,7 @@ module _ {M : Type 1} {𝓤 : Ura M} (𝓛 : Logic 𝓤) (mem : Memory → SProp
         move ! (20 ∷ 21 ∷ []) $ free1 ! $ move ! (18 ∷ 19 ∷ []) $ free1 ! $ move ! (16 ∷ 17 ∷ []) $ free1 ! $ move ! (14 ∷ 15 ∷ []) $ free1 ! $ move ! (12 ∷ 13 ∷ []) $ free1 ! $ move ! (10 ∷ 11 ∷ []) $ free1 ! $ move ! (8 ∷ 9 ∷ []) $ free1 ! $ move ! (6 ∷ 7 ∷ []) $ free1 ! $ free0 ! $
         move ! (3 ∷ 1 ∷ []) $ fjoin ! $ move ! (2 ∷ 0 ∷ []) $ fjoin ! $ keep ! (1 ∷ 0 ∷ []) $ by ! (exits (get_or ys i no_label) refl g)))) (λ y.
         skips ! $ exec ! C Λ (E l₀ l₁ l₂ l₃ l₄ l₅ l₆ l₇) mir.t-4 (at_ret (E l₀ l₁ l₂ l₃ l₄ l₅ l₆ l₇) Post) $
-        assigns ! (agg ! (and_then ! (lit ! tt) (and_then ! (lit ! tt) (and_then ! (lit ! tt) (and_then ! (false_lit !) (no_more !)))))) (from ! (stop !)) (init ! 20 refl (typed 𝓛 no_label none_is)) $
+        assigns ! (agg ! (and_then ! (lit ! tt) (and_then ! (lit ! tt) (and_then ! (lit ! tt) (no_more !))))) (from ! (stop !)) (init ! 20 refl (typed 𝓛 no_label none_is)) $
         returns ! (look ! 20 refl) $ forget ! 12 refl $ forget ! 14 refl $ forget ! 16 refl $ forget ! 18 refl $ forget ! 20 refl $
         move ! (20 ∷ 21 ∷ []) $ free1 ! $ move ! (18 ∷ 19 ∷ []) $ free1 ! $ move ! (16 ∷ 17 ∷ []) $ free1 ! $ move ! (14 ∷ 15 ∷ []) $ free1 ! $ move ! (12 ∷ 13 ∷ []) $ free1 ! $ move ! (10 ∷ 11 ∷ []) $ free1 ! $ move ! (8 ∷ 9 ∷ []) $ free1 ! $ move ! (6 ∷ 7 ∷ []) $ free1 ! $ free0 ! $
         move ! (3 ∷ 0 ∷ []) $ fjoin ! $ move ! (2 ∷ 0 ∷ []) $ fjoin ! $ keep ! (1 ∷ 0 ∷ []) $ by ! (exits no_label (past ys i (nltb→le i n y)) none_is))))))))))

@@ -125,7 +125,7 @@ module _ {M : Type 1} {𝓤 : Ura M} (𝓛 : Logic 𝓤) (mem : Memory → SProp
   one_more : (i : ℕ) (l : Label) → i < n → l ≡ label_of (get_or x.now i 0) → set (so_far i) i l ≡ so_far (suc i)
   one_more i l i<n e = ap (set (so_far i) i) e ∙ made_more x.now ys i (omega (arith, i<n, few)) (omega (arith, i<n, fit))
 
-  step_fits : (i : ℕ) → i < n → i * 32 < 2 ^ 64
+  step_fits : (i : ℕ) → i < n → i * 24 < 2 ^ 64
   step_fits i i<n = omega (arith, i<n, fit, room.1)
 
   next_fits : (i : ℕ) → i < n → i + 1 < 2 ^ 64
@@ -201,7 +201,7 @@ module _ {M : Type 1} {𝓤 : Ura M} (𝓛 : Logic 𝓤) (mem : Memory → SProp
           land ! (from ! (stop !)) (init ! 7 refl (lands 𝓛 l v g)) $
           assigns ! (bin ! (load ! (from ! (stop !)) (look ! 3 refl)) (lit ! tt) (record { fits = step_fits i i<n })) (from ! (stop !)) (init ! 8 refl (tt, record { fits = step_fits i i<n })) $
           assigns ! (bin ! (load ! (from ! (fld ! refl (stop !))) (look_in ! 12 (sub ! 0 refl (whole !)))) (load ! (from ! (stop !)) (look ! 8 refl)) tt) (from ! (stop !)) (init ! 9 refl (tt, tt)) $
-          rewrite ! 9 (λ (p : ℕ). ‵ (fat full_share ty_ptr l₈ 0 (vptr b p))) (sym (place_is 32 o i)) refl $
+          rewrite ! 9 (λ (p : ℕ). ‵ (fat full_share ty_ptr l₈ 0 (vptr b p))) (sym (place_is 24 o i)) refl $
           -- the borrow is opened, and the element stored
           move ! (4 ∷ 5 ∷ 14 ∷ []) $ opens_slice ! tt Entry (so_far i) b o $ elem_out ! Entry (Is Entry) (shows 𝓛 Entry) vals tells full_share (so_far i) i no_label b o within (λ _.
           assigns ! (of_opd ! (load ! (from ! (stop !)) (look ! 11 refl))) (from ! (hop ! (look ! 13 refl) (stop !))) (store_raw ! 0 {τ = entry_ty} refl (lands 𝓛 l v g)) $

@@ -1,7 +1,6 @@
 -- `labels::move_label` meets its contract. Assumes nothing.
 use borrow.Author.Rules.{rules}
 use mathlib.Core.Path.{sym, subst, ◌∙◌}
-use mathlib.Core.Bool.{true}
 use native.Mathlib.Omega.{arith}
 use Rattle.entries.specs.declared.Label.{Label}
 use Rattle.entries.specs.Entries.{label_word, label_of}
@@ -10,7 +9,7 @@ use Rattle.labels.proofs.move_label.Statement.{statement}
 use Rattle.labels.proofs.move_label.Tie as tie
 
 abbrev placed : Label → Label → Label
-placed l m = record { level = l.level; token = l.token; position = m.position; twice = true }
+placed l m = record { level = l.level; token = l.token; position = m.position }
 
 label-word-requires : tie.Need-label-word-requires
 label-word-requires c κs =

@@ -1,9 +1,9 @@
--- `jumps::is_jump` meets its contract: only one shape is a jump's. Assumes nothing.
+-- `first_pass::is_jump` meets its contract: only one shape is a jump's. Assumes nothing.
 use borrow.Author.Rules.{rules}
 use mathlib.Core.Path.{ap, sym, ◌∙◌}
 use Rattle.movies.specs.Meaning.{is_jump}
-use Rattle.jumps.proofs.is_jump.Statement.{statement}
-use Rattle.jumps.proofs.is_jump.Tie as tie
+use Rattle.first_pass.proofs.is_jump.Statement.{statement}
+use Rattle.first_pass.proofs.is_jump.Tie as tie
 
 pub is-jump-spec : {M : Type 1} → statement M
 is-jump-spec =

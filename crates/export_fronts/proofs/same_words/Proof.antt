@@ -1,9 +1,9 @@
--- `fronts::same_words` ends: it counts up to the length. Assumes nothing.
+-- `export_fronts::same_words` ends: it counts up to the length. Assumes nothing.
 use borrow.Author.Rules.{rules}
 use Prim.Native.Nat.{◌-◌}
 use lib.ListN.{length}
-use Rattle.fronts.proofs.same_words.Statement.{statement}
-use Rattle.fronts.proofs.same_words.Tie as tie
+use Rattle.export_fronts.proofs.same_words.Statement.{statement}
+use Rattle.export_fronts.proofs.same_words.Tie as tie
 
 abbrev invariant-loop : tie.invariant-loop
 invariant-loop a b i₀ i = Unit {0}

@@ -1,5 +1,0 @@
-pub mod Marks
-pub mod Written
-pub mod Answers
-pub mod LabelMarks
-pub mod Parts
