@@ -1,4 +1,5 @@
 // Prints the 100 actions, a line each: number, name, stack delta. Its expected output is typed from document 01.
+#![tactic(auto)]
 use names::ActionName;
 use pcode::StackDelta;
 use printing::{print_number, print_signed, print_text};

@@ -1,9 +1,11 @@
 // Refusals: document 01's table under 'The call', a case for each row, and document 02's answers 10 to 25.
+#![tactic(auto)]
+
 ghost use Rattle.std.specs.Prelude.{◌≡◌};
 ghost use Rattle.answers.specs.Answers.{number_of, place_of};
 
 // A case holds the place where the row's place is not fixed.
-#[derive(Drop)]
+#[derive(Clone, Copy)]
 pub enum Refusal {
     // 1: a text over 65,536 bytes, or a list that long given to `delta`
     TooLong,

@@ -1,4 +1,5 @@
 // Runs the leaves at their limits, a line for each case.
+#![tactic(auto)]
 ghost use Rattle.std.specs.Prelude.{◌≤◌};
 
 use answers::Refusal;
@@ -37,7 +38,7 @@ fn count_back(limit: u64, of_kinds: bool) -> u64 {
 
 // ---- tokens: through the table word and back
 
-#[derive(Drop)]
+#[derive(Clone, Copy)]
 struct Written {
     kind: TokenKind,
     start: usize,
@@ -180,7 +181,7 @@ fn print_raw(i: usize) {
 
 // ---- deltas
 
-#[derive(Drop)]
+#[derive(Clone, Copy)]
 struct Given {
     action: ActionName,
     values: usize,

@@ -1,6 +1,7 @@
 // Document 01's bench texts, the starred ones too, its traps at the door and its rows on tables, and strings without their
 // closing quote (document 02, §1): a line for each, with the text and what reading answers. Its `stdout` is typed from the
 // documents.
+#![tactic(auto)]
 use as2_pcode::{Counts, Reading};
 use fronts::{Lent, least};
 use libc::STDOUT_FILENO;

@@ -1,4 +1,5 @@
 // What C is told of tokens, deltas, values, names and places: the numbers of an answer in `out` arrays, and 0 or a refusal's number.
+#![tactic(auto)]
 ghost use Rattle.std.specs.Prelude.{◌≡◌, length};
 ghost use Rattle.words.specs.Spellings.{all_letters};
 ghost use Rattle.lexer.specs.Lexing as Lexes;
@@ -76,7 +77,7 @@ pub fn token_with(kind: u64, start: usize, end: usize) -> Token
 }
 
 // What C is told of a value: its case, and the number, the double's bits or the bounds that the case holds, else 0.
-#[derive(Drop)]
+#[derive(Clone, Copy)]
 pub struct ValueFields {
     pub tag: u64,
     pub integer: i32,

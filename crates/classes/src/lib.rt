@@ -1,4 +1,5 @@
 // What an operand may be, and whether the token at a place is that.
+#![tactic(auto)]
 ghost use Rattle.std.specs.Prelude.{◌≡◌, ◌||◌, eqb, ◌<◌, length};
 ghost use Rattle.classes.specs.declared.Class.TheVariants as C;
 ghost use Rattle.classes.specs.Lexemes.{Sound, kind_at, class_at, fits_at, acting_as, count_at, is_count_at};
@@ -9,7 +10,7 @@ use tokens::{kind_place, token_of};
 use values::{TokenValue, i32_of, u8_of, u16_of, value};
 
 // What an operand may be.
-#[derive(Drop)]
+#[derive(Clone, Copy)]
 pub enum Class {
     String,
     Value,

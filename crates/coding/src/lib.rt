@@ -1,4 +1,5 @@
 // The bytes of action records, coded from a text's tokens.
+#![tactic(auto)]
 mod code;
 
 ghost use Rattle.std.specs.Prelude.{◌≡◌, true, length};

@@ -1,4 +1,5 @@
 // What is shown, put together in columns and printed a buffer at a time: a write for each word takes too long.
+#![tactic(auto)]
 ghost use Rattle.std.specs.Prelude.{◌≡◌, ◌-◌, ◌<◌, max, nat_abs};
 ghost use Rattle.io.specs.Digits.{hex_digit_ascii};
 
@@ -8,7 +9,7 @@ use printing::print_text;
 const WIDEST: usize = 4096;
 
 // How many bytes of the buffer are filled, and how many characters of the line.
-#[derive(Drop)]
+#[derive(Clone, Copy)]
 pub struct Cursor {
     at: usize,
     column: usize,

@@ -1,10 +1,12 @@
 // How many entries of each kind a log has: labels written again are counted again.
+#![tactic(auto)]
+
 ghost use Rattle.std.specs.Prelude.{◌≡◌, ◌≤◌};
 ghost use Rattle.counting.specs.Counting.{one_if, Counted};
 
 use events::kind_of;
 
-#[derive(Drop)]
+#[derive(Clone, Copy)]
 pub struct Count {
     pub actions: usize,
     pub labels: usize,

@@ -1,4 +1,5 @@
 // The entries of the tables that reading fills: one number for each, for a level two, and the structs made of them.
+#![tactic(auto)]
 ghost use Rattle.std.specs.Prelude.{◌≡◌, [], ◌∷◌, ◌*◌, ◌-◌, ◌≤◌, get_or, set};
 ghost use Rattle.tokens.specs.Tokens.{token_of};
 ghost use Rattle.std.proofs.lemmas.List.Edits.{sets};
@@ -11,7 +12,7 @@ use names::ActionName;
 use tokens::{Token, token_of};
 
 // Its operands are `count` entries of the operand table, from `first` on.
-#[derive(Drop)]
+#[derive(Clone, Copy)]
 pub struct Action {
     pub name: ActionName,
     pub level: usize,
@@ -20,7 +21,7 @@ pub struct Action {
 }
 
 // Unclosed is a string without its closing quote, and nothing else.
-#[derive(Drop)]
+#[derive(Clone, Copy)]
 pub struct Operand {
     pub action: usize,
     pub token: usize,
@@ -28,7 +29,7 @@ pub struct Operand {
 }
 
 // Which block of which action a level is; the top level is none.
-#[derive(Drop)]
+#[derive(Clone, Copy)]
 pub enum Block {
     Top,
     Body(usize),
@@ -38,14 +39,14 @@ pub enum Block {
 }
 
 // Document 01's net: the height that a level's own actions leave, or the first of them whose delta is undetermined.
-#[derive(Drop)]
+#[derive(Clone, Copy)]
 pub enum Net {
     Height(i64),
     Undetermined(usize),
 }
 
 // Its own actions are counted, and the unclosed strings among their operands; bodies not.
-#[derive(Drop)]
+#[derive(Clone, Copy)]
 pub struct Level {
     pub block: Block,
     pub actions: usize,
@@ -54,7 +55,7 @@ pub struct Level {
 }
 
 // The token is the first that names it, the position the last that it was given.
-#[derive(Drop)]
+#[derive(Clone, Copy)]
 pub struct Label {
     pub level: usize,
     pub token: usize,

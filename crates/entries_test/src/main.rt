@@ -1,5 +1,6 @@
 // Texts read into a slice of two label entries, which hold a mark before: what reading answers, both entries, and the label
 // of level 0 that has a name.
+#![tactic(auto)]
 use as2_pcode::{Counts, Reading};
 use entries::Label;
 use entry_reading::read_entries;

@@ -1,4 +1,5 @@
 // The entries of a reading, held to a record (`records` says what that is), and what was compared, counted.
+#![tactic(auto)]
 use answers::Refusal;
 use entries::{Action, Block, Label, Level, Operand};
 use pcode::StackDelta;
@@ -207,7 +208,7 @@ fn expect_labels(
 // ---- all entries: how many actions, operands, levels and labels, and each of them
 
 // A refusal has none.
-#[derive(Drop)]
+#[derive(Clone, Copy)]
 pub struct Entries {
     pub actions: usize,
     pub operands: usize,
@@ -238,7 +239,7 @@ pub fn expect_entries(
 
 // ---- what was compared
 
-#[derive(Drop)]
+#[derive(Clone, Copy)]
 pub struct Totals {
     pub texts: u64,
     pub refused: u64,

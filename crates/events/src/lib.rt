@@ -1,10 +1,12 @@
 // The log of a reading: what was read, as events in the order of the text, one word each. This crate alone knows that word.
+#![tactic(auto)]
+
 ghost use Rattle.std.specs.Prelude.{◌≡◌, ◌≤◌};
 ghost use Rattle.events.specs.Log.{Holdable, log_word, kind_of, event_of, Holds};
 
 // An action with its number, a label and an operand with their tokens, a block that opens (body, try, catch or finally) and a
 // level that closes.
-#[derive(Drop)]
+#[derive(Clone, Copy)]
 pub enum Event {
     Action(u64),
     Label(u64),

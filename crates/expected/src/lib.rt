@@ -1,4 +1,5 @@
 // What was expected at the place of a refusal 6, in a sentence for the author of a patch.
+#![tactic(auto)]
 mod sentence;
 mod stands;
 

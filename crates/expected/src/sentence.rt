@@ -5,7 +5,7 @@ use printing::write_text;
 use shapes::Shape;
 use wanted::{Wanted, wanted_at};
 
-#[derive(Drop)]
+#[derive(Clone, Copy)]
 pub enum Sentence {
     // in an action
     Operand(Wanted),

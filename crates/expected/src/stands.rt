@@ -4,7 +4,7 @@ use tokens::{Token, TokenKind};
 use values::TokenValue;
 use views::is_control;
 
-#[derive(Drop)]
+#[derive(Clone, Copy)]
 pub enum Stands {
     End,
     Newline,

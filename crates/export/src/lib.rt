@@ -1,4 +1,5 @@
 // Export: the movie's own bytes of a text (document 02, §2).
+#![tactic(auto)]
 ghost use Rattle.std.specs.Prelude.{◌≡◌, ◌≤◌, length};
 ghost use Rattle.handover.specs.Reading.{places, lent};
 ghost use Rattle.held.specs.Held.{Ample, Holds};
@@ -13,7 +14,7 @@ use exporting::Passed;
 use held::{hand_held, read_held};
 
 // The counts of reading, and how many bytes were written.
-#[derive(Drop)]
+#[derive(Clone, Copy)]
 pub enum Exporting {
     Written(Counts, usize),
     Refused(Refusal),

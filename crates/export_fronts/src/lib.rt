@@ -1,6 +1,7 @@
 // Export as the programs that try it call it: into the front of each table and of the output. It promises nothing, so that a
 // check of such a program does not go through what `export` promises. With it what those programs look at afterwards: marked
 // tables and outputs, and whether two hold the same.
+#![tactic(auto)]
 use action_records::Style;
 use export::Exporting;
 use fronts::{Lent, least};

@@ -1,6 +1,7 @@
 // Export at the limits of its fields (document 02, §2): bodies of 65,535 and 65,536 bytes, offsets at both ends, a Push record of the
 // greatest length, the largest text and output, and which fault of several counts. A line for each text: what it is, and how many bytes
 // export writes and two of them where a field stands; or the refusal. Its `stdout` is printed by `compare/vectors limits`.
+#![tactic(auto)]
 use action_records::Style;
 use export::Exporting;
 use export_fronts::{MARK, MARK_BYTE, are_marked, export_fronts, front};

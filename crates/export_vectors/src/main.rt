@@ -4,6 +4,7 @@
 // then a refusal, or 0 and the bytes.
 // A refusal must leave the tables and the output as they were. Of an accepted text the tables must be those of `read`, and what
 // lies behind the bytes as it was; and it is exported again with the output and with the tables exactly full, and one short.
+#![tactic(auto)]
 ghost use Rattle.std.specs.Prelude.{◌≤◌};
 
 use action_records::Style;
@@ -61,7 +62,7 @@ fn hold_to(good: bool, what: &[u8], counts: &mut [u64; 23]) {
 
 // ---- a call of the list
 
-#[derive(Drop)]
+#[derive(Clone, Copy)]
 struct Call {
     lent: Lent,
     style: Style,

@@ -1,4 +1,5 @@
 // Export over the tables of a reading: two passes of faults, then the bytes.
+#![tactic(auto)]
 ghost use Rattle.writer.specs.Writing.{tables};
 ghost use Rattle.exporting.specs.Passes.{TreeGiven, TreePassed, Held, Roomy, TextPassed};
 
@@ -9,7 +10,7 @@ use level_trees::actions_of;
 use writer::write_level;
 
 // How many bytes were written, or a refusal: then none was.
-#[derive(Drop)]
+#[derive(Clone, Copy)]
 pub enum Passed {
     Written(usize),
     Refused(Refusal),

@@ -1,11 +1,12 @@
 // The text that an argument of a program names, a file or standard input; what became of it; and the program's status. What cannot
 // be read is told on standard error, in a line.
+#![tactic(auto)]
 ghost use Rattle.std.specs.Prelude.{◌≤◌};
 ghost use Rattle.files.specs.Files.{Within};
 
 use libc::{STDERR_FILENO, STDIN_FILENO};
 
-#[derive(Drop)]
+#[derive(Clone, Copy)]
 pub enum Input {
     Bytes(usize),
     // a read failed
@@ -88,7 +89,7 @@ pub fn read_file(program: &[u8], name: &[u8], buf: &mut [u8]) -> Input
 }
 
 // What became of a file.
-#[derive(Drop)]
+#[derive(Clone, Copy)]
 pub enum Outcome {
     // with so many warnings
     Read(u64),
@@ -123,7 +124,7 @@ pub fn warnings_of(o: Outcome) -> u64 {
 }
 
 // How many files were refused, how many could not be read, and how many warnings there are of the others.
-#[derive(Drop)]
+#[derive(Clone, Copy)]
 pub struct Tally {
     pub refused: u64,
     pub failed: u64,

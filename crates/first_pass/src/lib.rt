@@ -1,4 +1,5 @@
 // The first pass of faults of export: the first action whose jump has no label in its level, or whose record cannot be coded.
+#![tactic(auto)]
 ghost use Rattle.std.specs.Prelude.{◌≡◌, ◌&&◌, ◌≤◌, ◌<◌, eqb, length};
 ghost use Rattle.shapes.specs.Shapes.{shape_of};
 ghost use Rattle.classes.specs.Lexemes.{Sound};
@@ -18,7 +19,7 @@ use names::ActionName;
 use shapes::{Shape, shape_of};
 
 // The number of a fault, 0 for none, and its action.
-#[derive(Drop)]
+#[derive(Clone, Copy)]
 pub struct Fault {
     pub number: u64,
     pub action: usize,

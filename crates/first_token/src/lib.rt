@@ -1,4 +1,5 @@
 // What a text starts with: a blank, a token, or a string of refusal 3 or 4. From lexer.rs.
+#![tactic(auto)]
 ghost use Rattle.std.specs.Prelude.{◌≡◌, ◌<◌, length};
 ghost use Rattle.words.specs.Tables.{Lent};
 ghost use Rattle.first_token.specs.First.{return_at, word_at, number_at, string_at, first};
@@ -6,7 +7,7 @@ ghost use Rattle.first_token.specs.First.{return_at, word_at, number_at, string_
 use tokens::TokenKind;
 
 // What stands at the start of a text: a blank, a token and its length, or a string of row 3 or 4.
-#[derive(Drop)]
+#[derive(Clone, Copy)]
 pub enum Found {
     Blank,
     Token(TokenKind, usize),

@@ -1,5 +1,6 @@
 // Reading as the programs that try it call it: into whole tables, or into the front of each. It promises nothing, so that a
 // check of such a program does not go through what `as2_pcode` promises of a reading.
+#![tactic(auto)]
 ghost use Rattle.std.specs.Prelude.{◌≤◌};
 
 use as2_pcode::Reading;
@@ -16,7 +17,7 @@ pub fn read_whole(
 }
 
 // How many words of each table are lent; a level takes two.
-#[derive(Drop)]
+#[derive(Clone, Copy)]
 pub struct Lent {
     pub tokens: usize,
     pub actions: usize,

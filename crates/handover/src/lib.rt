@@ -1,4 +1,5 @@
 // The answer of reading, and what it hands over: a reading's entries go into the lent tables if all of them have room.
+#![tactic(auto)]
 ghost use Rattle.std.specs.Prelude.{◌≡◌, [], ◌∷◌, length};
 ghost use Rattle.reading.specs.Told.{Logged};
 ghost use Rattle.handover.specs.Reading.{ReadsWords, lent};
@@ -10,7 +11,7 @@ use labelling::Put;
 use tables::copy_front;
 
 // How many entries each table got.
-#[derive(Drop)]
+#[derive(Clone, Copy)]
 pub struct Counts {
     pub tokens: usize,
     pub actions: usize,
@@ -19,7 +20,7 @@ pub struct Counts {
     pub labels: usize,
 }
 
-#[derive(Drop)]
+#[derive(Clone, Copy)]
 pub enum Reading {
     Read(Counts),
     Refused(Refusal),

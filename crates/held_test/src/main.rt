@@ -1,6 +1,7 @@
 // An example of a call over `held`: it may refuse a text that reading accepts, and then leaves every lent table as it was. A text is
 // read if the net of its top level is determined, and else refused by 9. A line for each text: the answer, how many lent tables
 // changed, and what `check` answers for tables of as many places.
+#![tactic(auto)]
 ghost use Rattle.std.specs.Prelude.{◌≡◌, ◌≤◌, length};
 ghost use Rattle.entries.specs.Entries.{level_in};
 ghost use Rattle.handover.specs.Reading.{places, lent};

@@ -1,4 +1,5 @@
 // The label that an If or a Jump names, in its level: found by the index of the labels that reading fills in.
+#![tactic(auto)]
 ghost use Rattle.std.specs.Prelude.{◌≡◌, ◌<◌, take};
 ghost use Rattle.labels.specs.Index.{Indexed};
 ghost use Rattle.jumps.specs.Aims.{name_at, aim_in, aim_at};
@@ -7,7 +8,7 @@ use entries::{Label, action_in, label_of, label_word, operand_in};
 use labels::{Merging, look_up};
 
 // One more than the position of a label, or 0; and the index after the walk.
-#[derive(Drop)]
+#[derive(Clone, Copy)]
 pub struct Aim {
     pub aim: usize,
     pub merging: Merging,

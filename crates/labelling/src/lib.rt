@@ -1,5 +1,6 @@
 // The labels of a log, by level and those of one name brought together, handed to a lent table if it has room: over scratch of the
 // labels' number.
+#![tactic(auto)]
 ghost use Rattle.std.specs.Prelude.{◌≡◌, ◌+◌, ◌≤◌, ◌<◌, length, set, take};
 ghost use Rattle.events.specs.Log.{Holds};
 ghost use Rattle.entries.specs.Entries.{label_word};
@@ -14,7 +15,7 @@ use events::{Event, event_of};
 use tables::copy_front;
 
 // The level that is open, how many levels and labels there are, and how many actions the open level has so far.
-#[derive(Drop)]
+#[derive(Clone, Copy)]
 pub struct Namer {
     pub level: usize,
     pub levels: usize,
@@ -145,7 +146,7 @@ fn arrange_labels(
 }
 
 // How many labels the lent table got, or that it has too few places for so many; then it is as it was.
-#[derive(Drop)]
+#[derive(Clone, Copy)]
 pub enum Put {
     Labels(usize),
     Short,

@@ -1,5 +1,6 @@
 // Labels of one name and level brought together: written again, a label keeps its first place and takes the new position.
 // Where it is, chains of labels by a hash of level and name tell, in lent memory (specs/Index.antt).
+#![tactic(auto)]
 ghost use Rattle.std.specs.Prelude.{◌≡◌, ◌-◌, ◌≤◌, ◌<◌, [], length, take};
 ghost use Rattle.labels.specs.Labels.{first_same, moved, Placed, Merged};
 ghost use Rattle.labels.specs.Index.{hash_of, bucket_in, linked, Chains, ChainsOf, Distinct, Indexed, Finds};
@@ -10,7 +11,7 @@ use label_names::{is_named, name_of};
 const FIRST_SEED: u32 = 1540483477;
 
 // Where a label stands, its bucket, and how many steps the walk took.
-#[derive(Drop)]
+#[derive(Clone, Copy)]
 struct Found {
     place: usize,
     bucket: usize,
@@ -18,7 +19,7 @@ struct Found {
 }
 
 // How many labels there are, the seed of their index, and how many steps walks may take before another.
-#[derive(Drop)]
+#[derive(Clone, Copy)]
 pub struct Merging {
     pub labels: usize,
     seed: u32,
@@ -26,7 +27,7 @@ pub struct Merging {
 }
 
 // Where a label stands, and the index after the walk.
-#[derive(Drop)]
+#[derive(Clone, Copy)]
 pub struct LookedUp {
     pub place: usize,
     pub merging: Merging,

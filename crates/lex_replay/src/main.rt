@@ -2,6 +2,7 @@
 // A record is numbers of four bytes, low byte first: the text's length; 0 where it has tokens, 2 where it is not UTF-8, 3
 // where the Rust panics; the count of tokens or of valid bytes; for each token its kind's number, span and raw bounds.
 // Then comes the text. Whether a string was closed is left out.
+#![tactic(auto)]
 ghost use Rattle.std.specs.Prelude.{◌<◌, ◌≤◌, length};
 
 use lexer::Lexing;
@@ -105,7 +106,7 @@ fn same_answer(text: &[u8], answer: u64, count: u64, list: &[u8]) -> bool {
 }
 
 // What a record says of lexing, and where the next one starts.
-#[derive(Drop)]
+#[derive(Clone, Copy)]
 struct Judged {
     next: usize,
     good: bool,

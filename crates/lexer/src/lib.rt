@@ -1,4 +1,5 @@
 // The lexer: all tokens of a text, or refusals 1 to 5. From lexer.rs.
+#![tactic(auto)]
 ghost use Rattle.std.specs.Prelude.{◌≡◌, ◌-◌, ◌≤◌, ◌<◌, length, drop};
 ghost use Rattle.words.specs.Tables.{Lent};
 ghost use Rattle.first_token.specs.First.{first};
@@ -10,7 +11,7 @@ use answers::Refusal;
 use first_token::Found;
 
 // What `lex` answers: the token count, or a refusal.
-#[derive(Drop)]
+#[derive(Clone, Copy)]
 pub enum Lexing {
     Tokens(usize),
     Refused(Refusal),

@@ -1,4 +1,5 @@
 // The operands of an action: one by its place, lists of them, and flags in bits.
+#![tactic(auto)]
 ghost use Rattle.std.specs.Prelude.{◌≡◌, [], ◌∷◌, map, ◌<◌, drop};
 ghost use Rattle.tokens.specs.Tokens.{token_of};
 ghost use Rattle.classes.specs.Lexemes.{Sound};
@@ -16,7 +17,7 @@ use operand_coding::{number_of, put_pushed, put_text};
 use tokens::{Token, token_of};
 
 // Four flags as a number, and whether each is 0 or 1.
-#[derive(Drop)]
+#[derive(Clone, Copy)]
 struct Flags {
     value: u64,
     holds: bool,

@@ -1,4 +1,5 @@
 // The listing of a reading: document 01, the paragraph on `pcode-list`.
+#![tactic(auto)]
 use as2_pcode::{Counts, Reading};
 use entries::Label;
 use names::ActionName;

@@ -1,4 +1,5 @@
 // What is looked up in the tables of a reading to show it.
+#![tactic(auto)]
 ghost use Rattle.std.specs.Prelude.{◌≡◌, length, take, drop};
 ghost use Rattle.places.specs.Places.{line_at};
 ghost use Rattle.tokens.specs.Tokens.{within, part as bytes_in};
@@ -66,7 +67,7 @@ pub fn delta_at(
 }
 
 // Where a jump goes: the position of a label.
-#[derive(Drop)]
+#[derive(Clone, Copy)]
 pub enum Target {
     At(usize),
     Nothing,

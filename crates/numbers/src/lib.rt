@@ -1,24 +1,26 @@
 // What a number's text is worth: u8, u16 and i32 as Rust parses them, and the double, to the bit or Long.
+#![tactic(auto)]
+
 ghost use Rattle.std.specs.Prelude.{◌≡◌, ◌+◌, ◌≤◌, ◌<◌, pos, length, get_or};
 ghost use Rattle.std.specs.Float.{fin};
 ghost use Rattle.numbers.specs.Integers.{with_byte, value_of, up_to, is_natural, natural, is_minus, has_minus, minus_end, largest, signed_number, integer};
 ghost use Rattle.numbers.specs.Doubles.{whole_end, mantissa_end, fraction_digits, has_digit, is_e, is_exponent, is_number, ten, scaled, signed, exponent, up, down, double_of, double};
 
 // A number without a sign, or none.
-#[derive(Drop)]
+#[derive(Clone, Copy)]
 pub enum Natural {
     Is(u64),
     Nothing,
 }
 
-#[derive(Drop)]
+#[derive(Clone, Copy)]
 pub enum Integer {
     Is(i32),
     Nothing,
 }
 
 // `Long` is a number that one rounded operation on exact operands does not give.
-#[derive(Drop)]
+#[derive(Clone, Copy)]
 pub enum Double {
     Is(f64),
     Long,

@@ -1,5 +1,6 @@
 // The readers of an action's operands, by the names of the Rust's parser/actions.rs: functions over a token index by value. What
 // they read they write into a log of events, from which the tables are made.
+#![tactic(auto)]
 ghost use Rattle.std.specs.Prelude.{◌≡◌, true, ◌≤◌, set};
 ghost use Rattle.classes.specs.Lexemes.{fits_at};
 ghost use Rattle.events.specs.Log.{Holdable, log_word};
@@ -11,14 +12,14 @@ use events::log_word;
 use shapes::Shape;
 
 // The next token, and how many events the log holds.
-#[derive(Drop)]
+#[derive(Clone, Copy)]
 pub struct At {
     pub at: usize,
     pub events: usize,
 }
 
 // Where a reader leads: on, or to refusal 6 or 7 at a token.
-#[derive(Drop)]
+#[derive(Clone, Copy)]
 pub enum Step {
     To(At),
     Bad(usize),

@@ -1,5 +1,6 @@
 // The readers of levels, actions and blocks, by the names of the Rust's parser/actions.rs. They call one another: the remaining
 // tokens fall, and no more than `room` blocks open inside one another. What they read they write into a log of events.
+#![tactic(auto)]
 ghost use Rattle.std.specs.Prelude.{◌≡◌, ◌≤◌, ◌<◌, ◌+◌, length};
 ghost use Rattle.classes.specs.Lexemes.{Sound, kind_at};
 ghost use Rattle.operands.specs.Log.{part_number};
@@ -40,14 +41,14 @@ const OPENED: u64 = 3;
 const CLOSED: u64 = 4;
 
 // A Try's target: none, or the token at a place.
-#[derive(Drop)]
+#[derive(Clone, Copy)]
 pub enum CatchTarget {
     Nothing,
     Token(usize),
 }
 
 // What follows a block of a Try: no newline, or, behind all newlines, the place of another item or of a handler's word.
-#[derive(Drop)]
+#[derive(Clone, Copy)]
 pub enum Handler {
     NoNewline,
     Item(usize),
@@ -56,7 +57,7 @@ pub enum Handler {
 }
 
 // Which block of its action a block is.
-#[derive(Drop)]
+#[derive(Clone, Copy)]
 pub enum BlockKind {
     Body,
     Try,

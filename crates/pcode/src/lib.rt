@@ -1,4 +1,6 @@
 // Stack deltas. From pcode.rs.
+#![tactic(auto)]
+
 ghost use Rattle.std.specs.Prelude.{◌≡◌};
 ghost use Rattle.pcode.specs.Deltas.{answer, delta_answer, fixed_delta};
 
@@ -118,7 +120,7 @@ fn fixed_delta(name: ActionName) -> i32
 }
 
 // What `delta` answers: the values pushed less those popped, or a refusal.
-#[derive(Drop)]
+#[derive(Clone, Copy)]
 pub enum StackDelta {
     Is(i32),
     Refused(Refusal),

@@ -1,6 +1,7 @@
 // Program `pcode-check FILE..`: of each file, that it is read, with a warning for each unclosed string; or where it is refused, what was
 // expected there and the line with a mark. The last line says how many were refused. The script pcode-check at the root has the options
 // and makes the exit status.
+#![tactic(auto)]
 use as2_pcode::{Counts, Reading};
 use files::{Input, Outcome, Tally};
 use libc::{STDERR_FILENO, STDOUT_FILENO};

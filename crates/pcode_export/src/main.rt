@@ -1,5 +1,6 @@
 // Program `pcode-export [--as-printed] [FILE]`: the movie's bytes of a text, on standard output and nothing else there; or, on standard
 // error, where it is refused and why. The script pcode-export at the root has the options and makes the exit status.
+#![tactic(auto)]
 use action_records::Style;
 use answers::Refusal;
 use export::Exporting;

@@ -1,5 +1,6 @@
 // Program `pcode-list`: lists the p-code text on standard input, as document 01 says. The script pcode-list at the root has the options and
 // makes the exit status.
+#![tactic(auto)]
 ghost use Rattle.handover.specs.Reading.{lent};
 ghost use Rattle.pcode_list.specs.Listed.{Listed, NeverShort};
 

@@ -1,5 +1,6 @@
 // Program `pcode-show FILE..`: what each file was read as, or where it is refused and what was expected there. The script pcode-show at
 // the root has the options and makes the exit status.
+#![tactic(auto)]
 use as2_pcode::{Counts, Reading};
 use files::{Input, Outcome, Tally};
 use libc::STDOUT_FILENO;

@@ -1,4 +1,6 @@
 // The line and the column of a byte in a text, both from 1. A place past the end is taken as the end.
+#![tactic(auto)]
+
 ghost use Rattle.std.specs.Prelude.{◌≡◌, cond, ◌≤◌, ◌<◌, length};
 ghost use Rattle.places.specs.Places.{ends_at, place_in, line_start, code_points, is_tail, line_at, column_at};
 

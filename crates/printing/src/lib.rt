@@ -1,4 +1,5 @@
 // What the programs print: text, numbers, bounds and refusals, on standard output; text and numbers on any descriptor.
+#![tactic(auto)]
 use answers::Refusal;
 use libc::STDOUT_FILENO;
 use tokens::Span;

@@ -1,6 +1,7 @@
 // Replays the answers that the Rust gave on a fixed list of texts (data/, made by `compare/run ORACLE sample-reading`). What is
 // expected of reading stands in a record (`records` says what that is) in the order of the functions below. Whether a string was
 // closed, and the count of those that were not, are left out.
+#![tactic(auto)]
 use as2_pcode::{Counts, Reading};
 use entries::{Level, Net, Operand};
 use records::{Cursor, expect, expect_i32, expect_signed, number_from, print_count};
@@ -193,7 +194,7 @@ fn expect_answer(
 
 // ---- all records
 
-#[derive(Drop)]
+#[derive(Clone, Copy)]
 struct Totals {
     texts: u64,
     read: u64,

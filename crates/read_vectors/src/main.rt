@@ -2,13 +2,14 @@
 // implementation of documents 01 and 02. What is expected of a call: the places of the five tables; then a refusal, or 0 and
 // all entries (`entry_records`). Three things of an answer are in the list and passed over until they are here: a level's net
 // by the jumps (document 02, §7), its label written last (§6), and how often a label was written (§3).
+#![tactic(auto)]
 use as2_pcode::Reading;
 use entry_records::{Entries, Totals};
 use fronts::Lent;
 use records::{Cursor, number_from};
 
 // What the tables are lent with, and where the list goes on.
-#[derive(Drop)]
+#[derive(Clone, Copy)]
 struct Call {
     lent: Lent,
     next: usize,

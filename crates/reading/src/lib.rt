@@ -1,4 +1,5 @@
 // From a text to its tokens and a log of its events.
+#![tactic(auto)]
 ghost use Rattle.std.specs.Prelude.{◌≤◌, length};
 ghost use Rattle.utf8.specs.Utf8.{valid_up_to};
 ghost use Rattle.reading.specs.Told.{Parses};
@@ -8,7 +9,7 @@ use lexer::Lexing;
 use operands::Step;
 
 // How many tokens and events there are, or refusals 3 to 7.
-#[derive(Drop)]
+#[derive(Clone, Copy)]
 pub enum Parsing {
     Refused(Refusal),
     Events(usize, usize),

@@ -2,6 +2,7 @@
 // A record is numbers, one behind the other: how many bytes of it follow; the text's length, and the text; then what is
 // expected, in the order in which the program asks for it. A number below 254 is a byte; 254 stands before two bytes, 255
 // before eight, low byte first. A signed number is written as twice its size, less one if it is negative.
+#![tactic(auto)]
 ghost use Rattle.std.specs.Prelude.{◌≡◌, ◌<◌, ◌≤◌, length};
 
 use printing::{print_number, print_text};
@@ -39,7 +40,7 @@ fn four_at(list: &[u8], at: usize) -> u64
 }
 
 // A number, and where the next one starts; not whole if the list ends before it does.
-#[derive(Drop)]
+#[derive(Clone, Copy)]
 pub struct Taken {
     pub whole: bool,
     pub value: u64,
@@ -113,7 +114,7 @@ fn signed(n: u64) -> i64 {
 
 // Where in the list the next number stands, where the first stood that was not as expected (0: none yet), and how many
 // numbers were passed over.
-#[derive(Drop)]
+#[derive(Clone, Copy)]
 pub struct Cursor {
     pub at: usize,
     pub wrong: usize,
@@ -211,7 +212,7 @@ pub fn rust_kind(kind: TokenKind) -> u64 {
 // ---- records
 
 // The text is the bytes from `start` up to `stop`; what is expected stands from there up to `next`.
-#[derive(Drop)]
+#[derive(Clone, Copy)]
 pub struct Record {
     pub start: usize,
     pub stop: usize,

@@ -1,5 +1,6 @@
 // What a program says of a text: how much was read, and what it warns of; or where it is refused, what that means, and the line with a
 // mark under the place.
+#![tactic(auto)]
 mod uncoded;
 mod warning;
 

@@ -88,7 +88,7 @@ fn next_unclosed(operands: &[u64], from: usize) -> usize
 }
 
 // A byte and its line.
-#[derive(Drop)]
+#[derive(Clone, Copy)]
 struct Place {
     byte: usize,
     line: usize,

@@ -1,4 +1,6 @@
 // Where words, numbers and strings end. From lexer.rs.
+#![tactic(auto)]
+
 ghost use Rattle.std.specs.Prelude.{◌≡◌, ◌≤◌, length, get_or};
 ghost use Rattle.scanner.specs.Bytes.{is_digit, is_word_byte};
 ghost use Rattle.scanner.specs.Ends.{run_end, test_of, word_end, digits_end, point_end, sign_end, power_end, exponent_end, stops, protects_next, string_stop};

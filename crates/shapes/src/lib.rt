@@ -1,11 +1,13 @@
 // Which operands each action takes, for the grammar and for the action reader.
+#![tactic(auto)]
+
 ghost use Rattle.std.specs.Prelude.{◌≡◌};
 ghost use Rattle.shapes.specs.Shapes.{shape_of};
 
 use names::ActionName;
 
 // A case for each operand list of document 01, 'Grammar'.
-#[derive(Drop)]
+#[derive(Clone, Copy)]
 pub enum Shape {
     Nothing,
     Values,

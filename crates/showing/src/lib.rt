@@ -1,4 +1,5 @@
 // What a text was read as: each level with its labels, then each action with its operands.
+#![tactic(auto)]
 mod action;
 mod layout;
 mod level;

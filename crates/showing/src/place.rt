@@ -5,7 +5,7 @@ ghost use Rattle.places.specs.Places.{line_at};
 use tokens::TokenKind;
 
 // An action's name starts at a byte, in a line; the names before a token are passed.
-#[derive(Drop)]
+#[derive(Clone, Copy)]
 pub struct Place {
     pub token: usize,
     pub byte: usize,

@@ -1,4 +1,6 @@
 // Handing entries over to a lent table.
+#![tactic(auto)]
+
 ghost use Rattle.std.specs.Prelude.{◌≡◌, ◌++◌, ◌≤◌, length, take, drop};
 
 // The first n of src, put at the start of dst; what stands behind them stays.

@@ -1,4 +1,6 @@
 // Tokens: kinds, spans and raw texts, and the table word of each token. From lexer/tokens.rs and span.rs.
+#![tactic(auto)]
+
 ghost use Rattle.std.specs.Prelude.{◌≡◌, cond, ◌+◌, ◌<◌, ◌≤◌, length};
 ghost use Rattle.tokens.specs.Kinds.{code_of, kind_number, kind_of, is_unclosed};
 ghost use Rattle.tokens.specs.Tokens.{span, token_in, word_of, token_of, within, raw_bounds, raw_text};
@@ -6,7 +8,7 @@ ghost use Rattle.tokens.specs.Tokens.{span, token_in, word_of, token_of, within,
 use actions::{action_at, action_number};
 use names::ActionName;
 
-#[derive(Drop)]
+#[derive(Clone, Copy)]
 pub enum TokenKind {
     Newline,
     // whether its closing quote was there
@@ -31,14 +33,14 @@ pub enum TokenKind {
 }
 
 // The bytes from `start` up to `end`.
-#[derive(Drop)]
+#[derive(Clone, Copy)]
 pub struct Span {
     pub start: usize,
     pub end: usize,
 }
 
 // A token's raw text is told by its bounds in the text; a string's leaves out its quotes.
-#[derive(Drop)]
+#[derive(Clone, Copy)]
 pub struct Token {
     pub kind: TokenKind,
     pub span: Span,

@@ -1,4 +1,6 @@
 // UTF-8 as Rust's `str` requires it.
+#![tactic(auto)]
+
 ghost use Rattle.std.specs.Prelude.{◌≡◌, cond, [], ◌∷◌, ◌+◌, ◌<◌, ◌≤◌, length, drop};
 ghost use Rattle.utf8.specs.Utf8.{◌to◌, tail, starts, char_len, valid_up_to};
 ghost use Rattle.utf8.specs.Front.{four_ascii, ValidFront};

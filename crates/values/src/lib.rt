@@ -1,4 +1,5 @@
 // What a token is worth: the value that Push pushes, and u8, u16 and i32. From parser/actions.rs and pcode.rs.
+#![tactic(auto)]
 ghost use Rattle.std.specs.Prelude.{◌≡◌, false, ◌≤◌, length};
 ghost use Rattle.std.specs.Float.{nan, inf};
 ghost use Rattle.tokens.specs.declared.TokenKind.TheVariants as K;
@@ -12,7 +13,7 @@ use tokens::{Span, Token, TokenKind};
 
 // The nine of the Rust's `PushValue`, and Long: a number that has no double by one rounded operation, as it was typed.
 // String and Long hold the bounds of the raw text.
-#[derive(Drop)]
+#[derive(Clone, Copy)]
 pub enum PushValue {
     Null,
     Undefined,
@@ -27,7 +28,7 @@ pub enum PushValue {
 }
 
 // What `value` answers.
-#[derive(Drop)]
+#[derive(Clone, Copy)]
 pub enum TokenValue {
     Is(PushValue),
     Refused(Refusal),

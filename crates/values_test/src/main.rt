@@ -1,5 +1,6 @@
 // Values at their limits. First the texts on standard input, a line for each token with its value, and of an Integer token
 // its u8, u16 and i32; then tokens that no text yields, and texts of 65,536 and 65,537 bytes.
+#![tactic(auto)]
 use lexer::Lexing;
 use libc::STDIN_FILENO;
 use numbers::{Integer, Natural};
@@ -107,7 +108,7 @@ fn print_all(text: &[u8]) {
 
 // ---- tokens that no text yields
 
-#[derive(Drop)]
+#[derive(Clone, Copy)]
 struct Odd {
     kind: TokenKind,
     start: usize,

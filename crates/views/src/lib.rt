@@ -1,5 +1,6 @@
 // What the programs show of a text: a line with a mark under a place; of a file, its name. Control characters are shown as `?`; after the
 // place of a mark they end the line.
+#![tactic(auto)]
 ghost use Rattle.std.specs.Prelude.{◌+◌, ◌≤◌, length};
 
 use scanner::byte_at;
@@ -141,7 +142,7 @@ pub fn name_byte(text: &[u8], i: usize) -> u8 {
 }
 
 // What is written for each byte.
-#[derive(Drop)]
+#[derive(Clone, Copy)]
 enum Row {
     Shown,
     Name,
@@ -221,7 +222,7 @@ pub fn print_name(fd: i32, name: &[u8]) {
 }
 
 // What of a line is shown.
-#[derive(Drop)]
+#[derive(Clone, Copy)]
 struct Window {
     from: usize,
     to: usize,

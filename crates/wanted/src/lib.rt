@@ -1,4 +1,5 @@
 // What an operand must be, by the shape of its action and its number, in words for the author of a patch.
+#![tactic(auto)]
 ghost use Rattle.std.specs.Prelude.{◌≡◌, [], ◌∷◌, replicate};
 ghost use Rattle.wanted.specs.declared.Wanted.TheVariants as W;
 ghost use Rattle.shapes.specs.declared.Shape.TheVariants as S;
@@ -8,7 +9,7 @@ use shapes::Shape;
 
 // What an operand must be, in the words of docs/FORMAT.md. Flag is one of the nine bools of a DefineFunction2, Parameter the name of a
 // function's parameter, Register the number before it.
-#[derive(Drop)]
+#[derive(Clone, Copy)]
 pub enum Wanted {
     Nothing,
     String,

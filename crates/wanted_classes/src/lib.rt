@@ -1,1 +1,2 @@
 // No code: what `wanted` says of an operand is what the grammar takes there.
+#![tactic(auto)]

@@ -1,4 +1,6 @@
 // The words of p-code: how the 100 actions are spelled, and which of them a word is, case ignored.
+#![tactic(auto)]
+
 ghost use Rattle.std.specs.Prelude.{◌≡◌, true, ◌+◌, ◌<◌, ◌≤◌, eqb, length};
 ghost use Rattle.std.proofs.Math.Seq.{slice};
 ghost use Rattle.words.specs.Spellings.{all_letters, spellings, spelling_of};

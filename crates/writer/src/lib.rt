@@ -1,5 +1,6 @@
 // The records of a level, its bodies written straight into their places: each is lent the part behind its record. What does not fit the
 // output is not stored, but counted.
+#![tactic(auto)]
 ghost use Rattle.std.specs.Prelude.{◌≡◌, true, ◌≤◌, min, length};
 ghost use Rattle.std.proofs.lemmas.List.Edits.{sets};
 ghost use Rattle.action_records.specs.Fields.{is16};
@@ -15,7 +16,7 @@ use filling::{aim_jumps, fill_block, least, mark, unless_holds};
 use level_trees::{actions_of, is_block_of};
 
 // The next action and level, how many bytes were written, and the lowest action with a size or an offset out of its field.
-#[derive(Drop)]
+#[derive(Clone, Copy)]
 pub struct At {
     pub action: usize,
     pub level: usize,

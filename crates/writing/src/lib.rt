@@ -1,5 +1,6 @@
 // Actions, operands and levels of a log, written straight into the lent tables: an action with its operands when it comes, a level
 // when it opens, and with each of its actions once more.
+#![tactic(auto)]
 ghost use Rattle.std.specs.Prelude.{◌≡◌, ◌+◌, ◌≤◌, ◌<◌, map, length, drop, get_or, set};
 ghost use Rattle.std.proofs.lemmas.List.Edits.{sets};
 ghost use Rattle.entries.specs.Levels.{Small};
@@ -16,7 +17,7 @@ use nets::{first_is_empty, next_net};
 use tokens::is_unclosed;
 
 // The level that is open, the action that came last, and how many entries are written.
-#[derive(Drop)]
+#[derive(Clone, Copy)]
 pub struct Writer {
     pub level: usize,
     pub action: usize,
@@ -74,7 +75,7 @@ fn give_operand(s: &[u64], token: usize, action: usize, at: usize, operands: &mu
 }
 
 // The place behind an action's operands, and how many of them are unclosed strings.
-#[derive(Drop)]
+#[derive(Clone, Copy)]
 pub struct Given {
     pub end: usize,
     pub unclosed: usize,
