@@ -1,5 +1,6 @@
 // The kind of a word: a constant, a register, an action's name, a keyword or an identifier.
 #![tactic(auto)]
+
 ghost use Rattle.std.specs.Prelude.{◌≡◌, ◌≤◌};
 ghost use Rattle.words.specs.Tables.{Lent};
 ghost use Rattle.words.specs.Words.{index_in};

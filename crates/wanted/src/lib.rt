@@ -1,5 +1,6 @@
 // What an operand must be, by the shape of its action and its number, in words for the author of a patch.
 #![tactic(auto)]
+
 ghost use Rattle.std.specs.Prelude.{◌≡◌, [], ◌∷◌, replicate};
 ghost use Rattle.wanted.specs.declared.Wanted.TheVariants as W;
 ghost use Rattle.shapes.specs.declared.Shape.TheVariants as S;

@@ -27,4 +27,4 @@ returns c =
     let behind : c.whole_end-whole.result < c.mantissa_end-end.result = laws.behind_whole c.args.s.now _ _ c.whole_end-whole.ensures
     c.mantissa_end-end.ensures c.if-end-whole.false in
     laws.a_fraction c.args.s.now _ _ c.whole_end-whole.ensures
-    c.mantissa_end-end.ensures behind
+    c.mantissa_end-end.ensures (behind)

@@ -19,21 +19,21 @@ pub overflow_add-i : goal.overflow_add-i
 overflow_add-i c =
     let at_e : c.is_e.result ≡ is_e (get_or c.args.s.now c.args.i 0) = c.is_e.ensures ∙ ap is_e c.byte_at.ensures in
     let e_inside : c.args.i < length c.args.s.now = let a = c.args in
-    laws.exponent-inside a.s.now a.i _ at_e (not-false _ c.if-not-is_e.false-raw) in
+    laws.exponent-inside a.s.now a.i _ (at_e) (not-false _ c.if-not-is_e.false-raw) in
     omega (arith, e_inside)
 
 pub sign_end-digits-requires : goal.sign_end-digits-requires
 sign_end-digits-requires c =
     let at_e : c.is_e.result ≡ is_e (get_or c.args.s.now c.args.i 0) = c.is_e.ensures ∙ ap is_e c.byte_at.ensures in
     let e_inside : c.args.i < length c.args.s.now = let a = c.args in
-    laws.exponent-inside a.s.now a.i _ at_e (not-false _ c.if-not-is_e.false-raw) in
+    laws.exponent-inside a.s.now a.i _ (at_e) (not-false _ c.if-not-is_e.false-raw) in
     omega (arith, e_inside)
 
 pub slice_bounds-is_natural-count : goal.slice_bounds-is_natural-count
 slice_bounds-is_natural-count c =
     let at_e : c.is_e.result ≡ is_e (get_or c.args.s.now c.args.i 0) = c.is_e.ensures ∙ ap is_e c.byte_at.ensures in
     let a = c.args in
-    omega (arith, c.sign_end-digits.ensures, laws.sign_inside a.s.now a.i _ at_e (not-false _ c.if-not-is_e.false-raw))
+    omega (arith, c.sign_end-digits.ensures, laws.sign_inside a.s.now a.i _ (at_e) (not-false _ c.if-not-is_e.false-raw))
 
 pub slice_bounds-is_natural-start : goal.slice_bounds-is_natural-start
 slice_bounds-is_natural-start = slice_bounds-is_natural-count
@@ -42,5 +42,5 @@ pub returns : goal.returns
 returns c =
     let at_e : c.is_e.result ≡ is_e (get_or c.args.s.now c.args.i 0) = c.is_e.ensures ∙ ap is_e c.byte_at.ensures in
     let a = c.args in
-    laws.an_exponent a.s.now a.i _ at_e (not-false _ c.if-not-is_e.false-raw) _ _
+    laws.an_exponent a.s.now a.i _ (at_e) (not-false _ c.if-not-is_e.false-raw) _ _
     c.sign_end-digits.ensures c.is_natural.ensures

@@ -11,9 +11,6 @@ use Rattle.numbers.specs.Doubles.{is_number, w}
 use Rattle.numbers.proofs.Doubles as laws
 use Rattle.numbers.proofs.parse_double.Goals as goal
 
-abbrev text : tie.After-known-told → List ℕ
-text c = c.before.before.before.before.before.before.before.before.before.args.s.now
-
 pub returns-then-not-is_number : goal.returns-then-not-is_number
 returns-then-not-is_number c =
     laws.off_pattern c.args.s.now (sym c.is_number.ensures ∙ not-true _ c.if-not-is_number.true-raw)
@@ -28,7 +25,7 @@ returns-in_default c =
     let is-number : is_number c.args.s.now ≡ true = sym c.is_number.ensures ∙ not-false _ c.if-not-is_number.false-raw in
     let m = c in
     let s = m.args.s.now in
-    laws.long s is-number
+    laws.long s (is-number)
     (laws.digits_many s _ m.mantissa_end-end.ensures _ c.number_up_to.ensures c.in_default.is)
 
 pub slice_bounds-number_up_to-count : goal.slice_bounds-number_up_to-count
@@ -52,24 +49,27 @@ far_double-requires c =
 pub returns-in_default-number_up_to : goal.returns-in_default-number_up_to
 returns-in_default-number_up_to c =
     let is-number : is_number c.args.s.now ≡ true = sym c.is_number.ensures ∙ not-false _ c.if-not-is_number.false-raw in
-    let digits : (c.in-Is.n ≡ w (text c)) × (c.in-Is.n ≤ 9007199254740992) = let m = c in
-    laws.digits_told (text c) _ m.mantissa_end-end.ensures _ c.number_up_to.ensures _ c.in-Is.is in
+    let text : List ℕ = c.args.s.now in
+    let digits : (c.in-Is.n ≡ w (text)) × (c.in-Is.n ≤ 9007199254740992) = let m = c in
+    laws.digits_told (text) _ m.mantissa_end-end.ensures _ c.number_up_to.ensures _ c.in-Is.is in
     let k = c in
-    laws.known (text k) is-number digits.0 _ c.far_double.ensures
+    laws.known (text) (is-number) _ (digits).0 _ c.far_double.ensures
 
 pub known_double-requires : goal.known_double-requires
 known_double-requires c =
-    let digits : (c.in-Is.n ≡ w (text c)) × (c.in-Is.n ≤ 9007199254740992) = let m = c in
-    laws.digits_told (text c) _ m.mantissa_end-end.ensures _ c.number_up_to.ensures _ c.in-Is.is in
+    let text : List ℕ = c.args.s.now in
+    let digits : (c.in-Is.n ≡ w (text)) × (c.in-Is.n ≤ 9007199254740992) = let m = c in
+    laws.digits_told (text) _ m.mantissa_end-end.ensures _ c.number_up_to.ensures _ c.in-Is.is in
     let k = c in
     let m = k in
-    let x = laws.exponent-told (text k) _ m.mantissa_end-end.ensures _ c.number_up_to-2.ensures _ c.in-Is-number_up_to.is in
-    record { s_len_bound = (m.requires, m.mantissa_end-end.ensures); n_bound = (digits.1, (x.1, x.0)) }
+    let x = laws.exponent-told (text) _ m.mantissa_end-end.ensures _ c.number_up_to-2.ensures _ c.in-Is-number_up_to.is in
+    record { s_len_bound = (m.requires, m.mantissa_end-end.ensures); n_bound = ((digits).1, (x.1, x.0)) }
 
 pub returns : goal.returns
 returns c =
     let is-number : is_number c.args.s.now ≡ true = sym c.is_number.ensures ∙ not-false _ c.if-not-is_number.false-raw in
-    let digits : (c.in-Is.n ≡ w (text c)) × (c.in-Is.n ≤ 9007199254740992) = let m = c in
-    laws.digits_told (text c) _ m.mantissa_end-end.ensures _ c.number_up_to.ensures _ c.in-Is.is in
+    let text : List ℕ = c.args.s.now in
+    let digits : (c.in-Is.n ≡ w (text)) × (c.in-Is.n ≤ 9007199254740992) = let m = c in
+    laws.digits_told (text) _ m.mantissa_end-end.ensures _ c.number_up_to.ensures _ c.in-Is.is in
     let k = c in
-    laws.known (text k) is-number digits.0 _ c.known_double.ensures
+    laws.known (text) (is-number) _ (digits).0 _ c.known_double.ensures

@@ -17,17 +17,17 @@ overflow_cast-result c =
 pub overflow_sub-result : goal.overflow_sub-result
 overflow_sub-result c =
     let negative : c.args.n ≤ 2147483648 = subst (λ (t : Bool). c.args.n ≤ largest t) c.if-negative.true c.requires in
-    laws.neg_fits_64 c.args.n negative
+    laws.neg_fits_64 c.args.n (negative)
 
 pub overflow_cast-result-then-negative : goal.overflow_cast-result-then-negative
 overflow_cast-result-then-negative c =
     let negative : c.args.n ≤ 2147483648 = subst (λ (t : Bool). c.args.n ≤ largest t) c.if-negative.true c.requires in
-    laws.neg_fits_32 c.args.n negative
+    laws.neg_fits_32 c.args.n (negative)
 
 pub returns-then-negative : goal.returns-then-negative
 returns-then-negative c =
     let negative : c.args.n ≤ 2147483648 = subst (λ (t : Bool). c.args.n ≤ largest t) c.if-negative.true c.requires in
-    laws.negated c.args.n negative ∙ sym (ap (λ (t : Bool). signed_number t c.args.n) c.if-negative.true)
+    laws.negated c.args.n (negative) ∙ sym (ap (λ (t : Bool). signed_number t c.args.n) c.if-negative.true)
 
 pub overflow_cast-result-2 : goal.overflow_cast-result-2
 overflow_cast-result-2 c =

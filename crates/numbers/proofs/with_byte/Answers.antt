@@ -16,9 +16,9 @@ returns-then-not-is_digit c =
 pub overflow_sub-result : goal.overflow_sub-result
 overflow_sub-result c =
     let is_digit_lem : is_digit c.args.b ≡ true = sym c.is_digit.ensures ∙ not-false _ c.if-not-is_digit.false-raw in
-    omega (arith, laws.digit_range c.args.b is_digit_lem)
+    omega (arith, laws.digit_range c.args.b (is_digit_lem))
 
 pub returns : goal.returns
 returns c =
     let is_digit_lem : is_digit c.args.b ≡ true = sym c.is_digit.ensures ∙ not-false _ c.if-not-is_digit.false-raw in
-    laws.digit c.args.n c.args.b is_digit_lem
+    laws.digit c.args.n c.args.b (is_digit_lem)

@@ -9,10 +9,11 @@ use Rattle.actions.specs.Numbers.{number_of}
 use Rattle.answers.specs.Answers.{accepted}
 use Rattle.pcode.specs.Deltas.{delta_answer}
 use Rattle.pcode.proofs.Deltas as laws
+use borrow.Enum.Refused.{opened}
 use Rattle.pcode.proofs.delta.Goals as goal
 
 pub returns-then-values-gt65536 : goal.returns-then-values-gt65536
-returns-then-values-gt65536 c = let a = c.args in laws.too_long a.name a.values a.name-is-empty c.if-values-gt65536.true
+returns-then-values-gt65536 c = let a = c.args in laws.too_long a.name a.values a.name_is_empty c.if-values-gt65536.true
 
 pub returns-then-name_is_empty : goal.returns-then-name_is_empty
 unfolding number_of
@@ -20,13 +21,13 @@ returns-then-name_is_empty c =
     let function : (t : Bool) → c.args.name_is_empty ≡ t
     → accepted (cond t (pos 1) (pos 0)) ≡ delta_answer c.args.name c.args.values c.args.name_is_empty = λ t e. let a = c.args in
     ap (λ (x : Bool). accepted (cond x (pos 1) (pos 0))) (sym e)
-    ∙ laws.at-function a.name a.values a.name-is-empty c.if-values-gt65536.false c.in-DefineFunction.in-DefineFunction-own.keys2 in
+    ∙ laws.at-function a.name a.values a.name_is_empty c.if-values-gt65536.false c.in-DefineFunction.in-DefineFunction-own.keys2 in
     function true c.if-name_is_empty.true
 
 pub returns-in-Push : goal.returns-in-Push
 returns-in-Push c =
     let a = c.args in
-    laws.at_push a.name a.values a.name-is-empty c.if-values-gt65536.false c.in-Push.is
+    laws.at_push a.name a.values a.name_is_empty c.if-values-gt65536.false c.in-Push.is
 
 pub returns-else-name_is_empty : goal.returns-else-name_is_empty
 unfolding number_of
@@ -34,18 +35,18 @@ returns-else-name_is_empty c =
     let function : (t : Bool) → c.args.name_is_empty ≡ t
     → accepted (cond t (pos 1) (pos 0)) ≡ delta_answer c.args.name c.args.values c.args.name_is_empty = λ t e. let a = c.args in
     ap (λ (x : Bool). accepted (cond x (pos 1) (pos 0))) (sym e)
-    ∙ laws.at-function a.name a.values a.name-is-empty c.if-values-gt65536.false c.in-DefineFunction.in-DefineFunction-own.keys2 in
+    ∙ laws.at-function a.name a.values a.name_is_empty c.if-values-gt65536.false c.in-DefineFunction.in-DefineFunction-own.keys2 in
     function false c.if-name_is_empty.false
 
 pub returns-in-CallFunction : goal.returns-in-CallFunction
 unfolding number_of
 returns-in-CallFunction c =
     let a = c.args in
-    laws.at-undetermined a.name a.values a.name-is-empty c.if-values-gt65536.false c.in-CallFunction.in-CallFunction-own.keys3
+    laws.at-undetermined a.name a.values a.name_is_empty c.if-values-gt65536.false c.in-CallFunction.in-CallFunction-own.keys3
 
 pub returns-in_default : goal.returns-in_default
 unfolding number_of
 returns-in_default c =
     let a = c.args in
     ap accepted (to_z-of_z w32 c.fixed_delta.result (record { sfits = c.fixed_delta.type_inv }) ∙ c.fixed_delta.ensures)
-    ∙ laws.at_others a.name a.values a.name-is-empty c.if-values-gt65536.false c.in_default.in_default-own.keys4
+    ∙ laws.at_others a.name a.values a.name_is_empty c.if-values-gt65536.false (opened c.in_default.in_default-own.keys4)
