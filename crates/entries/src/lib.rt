@@ -1,5 +1,6 @@
 // The entries of the tables that reading fills: one number for each, for a level two, and the structs made of them.
 #![tactic(auto)]
+
 ghost use Rattle.std.specs.Prelude.{◌≡◌, [], ◌∷◌, ◌*◌, ◌-◌, ◌≤◌, get_or, set};
 ghost use Rattle.tokens.specs.Tokens.{token_of};
 ghost use Rattle.std.proofs.lemmas.List.Edits.{sets};

@@ -1,5 +1,6 @@
 // What a token is worth: the value that Push pushes, and u8, u16 and i32. From parser/actions.rs and pcode.rs.
 #![tactic(auto)]
+
 ghost use Rattle.std.specs.Prelude.{◌≡◌, false, ◌≤◌, length};
 ghost use Rattle.std.specs.Float.{nan, inf};
 ghost use Rattle.tokens.specs.declared.TokenKind.TheVariants as K;

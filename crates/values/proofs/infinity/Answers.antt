@@ -1,0 +1,8 @@
+-- `values::infinity` meets its contract. Assumes nothing.
+use mathlib.Core.Path.{refl}
+use lib.Ieee.{div, of_bits}
+use Rattle.values.proofs.infinity.Goals as goal
+
+pub returns : goal.returns
+unfolding div of_bits
+returns c = refl
