@@ -1,5 +1,6 @@
 // What a text starts with: a blank, a token, or a string of refusal 3 or 4. From lexer.rs.
 #![tactic(auto)]
+
 ghost use Rattle.std.specs.Prelude.{◌≡◌, ◌<◌, length};
 ghost use Rattle.words.specs.Tables.{Lent};
 ghost use Rattle.first_token.specs.First.{return_at, word_at, number_at, string_at, first};
