@@ -10,6 +10,7 @@ use lib.ListN.{get_or}
 use Rattle.laws.proofs.Ranges.{any_of, arm, none_of, other, range}
 use Rattle.first_token.specs.First.{first_of}
 use Rattle.first_token.proofs.first_token.Goals as goal
+use Rattle.first_token.proofs.first_token.Goals.{in-45-1, in_default+else-b-lt48+then-b-lt58, in-36-1, in_default+else-b-lt48+else-b-lt58+else-b-lt65+then-b-lt91, in_default+else-b-lt48+else-b-lt58+else-b-lt65+else-b-lt91+else-b-lt97+then-b-lt123}
 
 -- the bytes of the arms of single bytes, an arm after another
 abbrev singles : ℕ → Bool
@@ -130,19 +131,18 @@ unfolding first_of
 returns-in-48-to-57 c =
     let s = c.args.s.now in
     c.number_at.ensures
-    ∙ ⊎_elim
-    (λ w. arm (first_of s) _ (get_or s 0 0) (45 ∷ []) refl w.keys9)
-    (λ w. range (first_of s) _ (get_or s 0 0) 48 10 refl w.1.left w.2.taken)
-    c.in-48-to-57-1.branch
+    ∙ elim c.in-48-to-57-1.branch [
+      | in-45-1 w ↦ arm (first_of s) _ (get_or s 0 0) (45 ∷ []) refl w.in-45-1.keys9
+      | in_default+else-b-lt48+then-b-lt58 w ↦ range (first_of s) _ (get_or s 0 0) 48 10 refl w.if-b-lt48-1.left w.if-b-lt58-1.taken
+    ]
 
 pub returns-in-97-to-122 : goal.returns-in-97-to-122
 unfolding first_of
 returns-in-97-to-122 c =
     let s = c.args.s.now in
     c.word_at.ensures
-    ∙ ⊎_elim
-    (λ w. arm (first_of s) _ (get_or s 0 0) (36 ∷ 95 ∷ []) refl w.keys8)
-    (⊎_elim
-    (λ w. range (first_of s) _ (get_or s 0 0) 65 26 refl w.3.left w.4.taken)
-    (λ w. range (first_of s) _ (get_or s 0 0) 97 26 refl w.5.left w.6.taken))
-    c.in-97-to-122-1.branch
+    ∙ elim c.in-97-to-122-1.branch [
+      | in-36-1 w ↦ arm (first_of s) _ (get_or s 0 0) (36 ∷ 95 ∷ []) refl w.in-36-1.keys8
+      | in_default+else-b-lt48+else-b-lt58+else-b-lt65+then-b-lt91 w ↦ range (first_of s) _ (get_or s 0 0) 65 26 refl w.if-b-lt65-1.left w.if-b-lt91-1.taken
+      | in_default+else-b-lt48+else-b-lt58+else-b-lt65+else-b-lt91+else-b-lt97+then-b-lt123 w ↦ range (first_of s) _ (get_or s 0 0) 97 26 refl w.if-b-lt97-1.left w.if-b-lt123-1.taken
+    ]
