@@ -133,7 +133,7 @@ returns-in-48-to-57 c =
     c.number_at.ensures
     ∙ elim c.in-48-to-57-1.branch [
       | in-45-1 w ↦ arm (first_of s) _ (get_or s 0 0) (45 ∷ []) refl w.in-45-1.keys9
-      | in_default+else-b-lt48+then-b-lt58 w ↦ range (first_of s) _ (get_or s 0 0) 48 10 refl w.if-b-lt48-1.left w.if-b-lt58-1.taken
+      | in_default+else-b-lt48+then-b-lt58 w ↦ range (first_of s) _ (get_or s 0 0) 48 10 refl w.if-b-lt48-1.false w.if-b-lt58-1.true
     ]
 
 pub returns-in-97-to-122 : goal.returns-in-97-to-122
@@ -143,6 +143,6 @@ returns-in-97-to-122 c =
     c.word_at.ensures
     ∙ elim c.in-97-to-122-1.branch [
       | in-36-1 w ↦ arm (first_of s) _ (get_or s 0 0) (36 ∷ 95 ∷ []) refl w.in-36-1.keys8
-      | in_default+else-b-lt48+else-b-lt58+else-b-lt65+then-b-lt91 w ↦ range (first_of s) _ (get_or s 0 0) 65 26 refl w.if-b-lt65-1.left w.if-b-lt91-1.taken
-      | in_default+else-b-lt48+else-b-lt58+else-b-lt65+else-b-lt91+else-b-lt97+then-b-lt123 w ↦ range (first_of s) _ (get_or s 0 0) 97 26 refl w.if-b-lt97-1.left w.if-b-lt123-1.taken
+      | in_default+else-b-lt48+else-b-lt58+else-b-lt65+then-b-lt91 w ↦ range (first_of s) _ (get_or s 0 0) 65 26 refl w.if-b-lt65-1.false w.if-b-lt91-1.true
+      | in_default+else-b-lt48+else-b-lt58+else-b-lt65+else-b-lt91+else-b-lt97+then-b-lt123 w ↦ range (first_of s) _ (get_or s 0 0) 97 26 refl w.if-b-lt97-1.false w.if-b-lt123-1.true
     ]
