@@ -1,5 +1,6 @@
 // The lexer: all tokens of a text, or refusals 1 to 5. From lexer.rs.
 #![tactic(auto)]
+
 ghost use Rattle.std.specs.Prelude.{◌≡◌, ◌-◌, ◌≤◌, ◌<◌, length, drop};
 ghost use Rattle.words.specs.Tables.{Lent};
 ghost use Rattle.first_token.specs.First.{first};
