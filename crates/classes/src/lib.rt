@@ -1,5 +1,6 @@
 // What an operand may be, and whether the token at a place is that.
 #![tactic(auto)]
+
 ghost use Rattle.std.specs.Prelude.{◌≡◌, ◌||◌, eqb, ◌<◌, length};
 ghost use Rattle.classes.specs.declared.Class.TheVariants as C;
 ghost use Rattle.classes.specs.Lexemes.{Sound, kind_at, class_at, fits_at, acting_as, count_at, is_count_at};
