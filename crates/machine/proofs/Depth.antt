@@ -230,6 +230,7 @@ module _ {S : Type 0} (emit : Event → S → S) where
 
   pub judge : (ts : List Lexeme) (σ : List Symbol) (d : ℕ) (s : S) → Good σ → Judged σ d s ts (limited emit σ d s ts)
   judge [] σ d s g = as_run (λ m h o. omega (arith, ap length o.cut, length-append o.before (o.brace ∷ o.after)))
+  judge (t ∷ ts) [] d s g = elim g [ ]
   judge (t ∷ ts) (a ∷ σ) d s g = by_move (move a t) refl (legal a t) (λ α d' s'. judge ts (α ++ σ) d' s')
     where
       by-room : (α : List Symbol) (o : Output) → move a t ≡ go α o → Step a t α o → (r : Option ℕ) → room_after o d ≡ r →

@@ -39,6 +39,7 @@ module _ {S : Type 0} (emit : Event → S → S) where
   pub stops : (ts : List Lexeme) (σ : List Symbol) (s : S) (n : ℕ) → Good σ → run emit σ s ts ≡ refused (suc n) → Stopped σ s ts n
   unfolding left-of
   stops [] σ s n g h = absurd (omega (arith, at-end-left (may_end σ) s, refused-left h))
+  stops (t ∷ ts) [] s n g h = elim g [ ]
   stops (t ∷ ts) (a ∷ σ) s n g h = by_move (move a t) refl (legal a t) h (λ α s'. stops ts (α ++ σ) s' n)
     where
       by_move : (m : Move) → move a t ≡ m → Legal a t m → proceed emit m s (λ α s'. run emit (α ++ σ) s' ts) (suc (length ts)) ≡ refused (suc n) →
@@ -69,6 +70,7 @@ module _ {S : Type 0} (emit : Event → S → S) where
   pub short : (ts : List Lexeme) (σ : List Symbol) (s : S) → Good σ → run emit σ s ts ≡ refused 0 → Can emit σ s ts
   unfolding left-of
   short [] σ s g h = complete emit g s
+  short (t ∷ ts) [] s g h = elim g [ ]
   short (t ∷ ts) (a ∷ σ) s g h = by_move (move a t) refl (legal a t) h (λ α s'. short ts (α ++ σ) s')
     where
       by_move : (m : Move) → move a t ≡ m → Legal a t m → proceed emit m s (λ α s'. run emit (α ++ σ) s' ts) (suc (length ts)) ≡ refused 0 →
