@@ -1,5 +1,6 @@
 // The net of a level behind one more of its actions.
 #![tactic(auto)]
+
 ghost use Rattle.std.specs.Prelude.{◌≡◌, ◌≤◌, ◌+ℤ◌};
 ghost use Rattle.entries.specs.declared.Net.TheVariants as N;
 ghost use Rattle.entries.specs.Levels.{SmallNet, NetFits};
