@@ -1,5 +1,6 @@
 // The name of a label, and whether a label is of a level and a name.
 #![tactic(auto)]
+
 ghost use Rattle.std.specs.Prelude.{◌≡◌};
 ghost use Rattle.lexemes.specs.Lexemes.{same_name};
 ghost use Rattle.label_names.specs.Names.{name_of, is_named};
