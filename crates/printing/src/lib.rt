@@ -1,49 +1,64 @@
-// What the programs print: text, numbers, bounds and refusals, on standard output; text and numbers on any descriptor.
+// What the programs print: text, numbers, bounds and refusals, on standard output; text and numbers on standard error too. A write
+// that fails is passed over: the scripts at the root see to it.
 #![tactic(auto)]
+
 use answers::Refusal;
-use libc::STDOUT_FILENO;
+use std::io::Print;
 use tokens::Span;
 
-pub fn write_text(fd: i32, text: &[u8]) {
-    io::write_all(fd, text);
+// Where something is printed.
+#[derive(Clone, Copy)]
+pub enum Stream {
+    Output,
+    Errors,
 }
 
-pub fn write_number(fd: i32, n: u64) {
-    io::print_decimal(fd, n);
+pub fn write_text(rt: HostRuntime, to: Stream, text: &[u8]) {
+    let _ = match to {
+        Stream::Output => rt.stdout().write_all(text),
+        Stream::Errors => rt.stderr().write_all(text),
+    };
 }
 
-pub fn print_text(text: &[u8]) {
-    write_text(STDOUT_FILENO, text);
+pub fn write_number(rt: HostRuntime, to: Stream, n: u64) {
+    let _ = match to {
+        Stream::Output => rt.stdout().print(n),
+        Stream::Errors => rt.stderr().print(n),
+    };
 }
 
-pub fn print_number(n: u64) {
-    write_number(STDOUT_FILENO, n);
+pub fn print_text(rt: HostRuntime, text: &[u8]) {
+    write_text(rt, Stream::Output, text);
 }
 
-pub fn print_signed(n: i32) {
+pub fn print_number(rt: HostRuntime, n: u64) {
+    write_number(rt, Stream::Output, n);
+}
+
+pub fn print_signed(rt: HostRuntime, n: i32) {
     if n < 0 {
-        print_text(b"-");
-        print_number((-(n as i64)) as u64);
+        print_text(rt, b"-");
+        print_number(rt, (-(n as i64)) as u64);
         return;
     }
-    print_number(n as u64);
+    print_number(rt, n as u64);
 }
 
 // A double's bits, 16 hexadecimal digits.
-pub fn print_bits(bits: u64) {
-    io::print_hex(STDOUT_FILENO, bits, 16);
+pub fn print_bits(rt: HostRuntime, bits: u64) {
+    let _ = print!(rt; "{bits:016x}");
 }
 
-pub fn print_span(s: Span) {
-    print_number(s.start as u64);
-    print_text(b"..");
-    print_number(s.end as u64);
+pub fn print_span(rt: HostRuntime, s: Span) {
+    print_number(rt, s.start as u64);
+    print_text(rt, b"..");
+    print_number(rt, s.end as u64);
 }
 
 // As `pcode-list` prints it.
-pub fn print_refusal(r: Refusal) {
-    print_text(b"refused ");
-    print_number(answers::refusal_number(r));
-    print_text(b" at ");
-    print_number(answers::refusal_place(r) as u64);
+pub fn print_refusal(rt: HostRuntime, r: Refusal) {
+    print_text(rt, b"refused ");
+    print_number(rt, answers::refusal_number(r));
+    print_text(rt, b" at ");
+    print_number(rt, answers::refusal_place(r) as u64);
 }
