@@ -13,15 +13,15 @@ pub enum Stream {
     Errors,
 }
 
-pub fn write_text(rt: HostRuntime, to: Stream, text: &[u8]) {
-    let _ = match to {
+pub fn write_text(rt: HostRuntime, stream: Stream, text: &[u8]) {
+    let _ = match stream {
         Stream::Output => rt.stdout().write_all(text),
         Stream::Errors => rt.stderr().write_all(text),
     };
 }
 
-pub fn write_number(rt: HostRuntime, to: Stream, n: u64) {
-    let _ = match to {
+pub fn write_number(rt: HostRuntime, stream: Stream, n: u64) {
+    let _ = match stream {
         Stream::Output => rt.stdout().print(n),
         Stream::Errors => rt.stderr().print(n),
     };

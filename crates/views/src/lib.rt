@@ -1,8 +1,10 @@
 // What the programs show of a text: a line with a mark under a place; of a file, its name. Control characters are shown as `?`; after the
 // place of a mark they end the line.
 #![tactic(auto)]
+
 ghost use Rattle.std.specs.Prelude.{◌+◌, ◌≤◌, length};
 
+use printing::{Stream, write_text};
 use scanner::byte_at;
 
 // A line of up to this many characters is shown whole; else these many before the place and from it on.
@@ -188,10 +190,10 @@ fn fill(text: &[u8], from: usize, to: usize, row: Row, out: &mut [u8]) -> usize
 }
 
 // No row is longer than what it is written for, so 1,024 bytes have room.
-fn print_bytes(fd: i32, text: &[u8], from: usize, to: usize, row: Row) {
+fn print_bytes(rt: HostRuntime, stream: Stream, text: &[u8], from: usize, to: usize, row: Row) {
     let mut out = [0u8; 1024];
     let n = fill(text, from, to, row, &mut out);
-    io::write_all(fd, part(&out, 0, n));
+    write_text(rt, stream, part(&out, 0, n));
 }
 
 // How much of the rest of a text is written at a time.
@@ -202,23 +204,23 @@ fn size_of(rest: usize) -> usize
     if rest < 1024 { rest } else { 1024 }
 }
 
-fn print_row(fd: i32, text: &[u8], row: Row) {
+fn print_row(rt: HostRuntime, stream: Stream, text: &[u8], row: Row) {
     let mut rest = text.len();
     while 0 < rest {
         let size = size_of(rest);
         let from = text.len() - rest;
-        print_bytes(fd, text, from, from + size, row);
+        print_bytes(rt, stream, text, from, from + size, row);
         rest -= size;
     }
 }
 
 // The name of a file, to standard output or standard error. A name can be any bytes.
-pub fn print_name(fd: i32, name: &[u8]) {
+pub fn print_name(rt: HostRuntime, stream: Stream, name: &[u8]) {
     if utf8::valid_up_to(name) < name.len() {
-        print_row(fd, name, Row::Ascii);
+        print_row(rt, stream, name, Row::Ascii);
         return;
     }
-    print_row(fd, name, Row::Name);
+    print_row(rt, stream, name, Row::Name);
 }
 
 // What of a line is shown.
@@ -247,23 +249,23 @@ fn goes_on(text: &[u8], to: usize) -> bool {
     !is_control(text, to)
 }
 
-fn print_if(fd: i32, is_so: bool, text: &[u8]) {
+fn print_if(rt: HostRuntime, stream: Stream, is_so: bool, text: &[u8]) {
     if is_so {
-        io::write_all(fd, text);
+        write_text(rt, stream, text);
     }
 }
 
 // The line of a place, and a mark below the place.
-pub fn print_view(fd: i32, text: &[u8], at: usize) {
+pub fn print_view(rt: HostRuntime, stream: Stream, text: &[u8], at: usize) {
     let start = places::line_start(text, at);
     let w = window_at(text, start, at);
     let from = w.from;
     let to = w.to;
-    print_if(fd, start < from, b"...");
-    print_bytes(fd, text, from, to, Row::Shown);
-    print_if(fd, goes_on(text, to), b"...");
-    print_if(fd, true, b"\n");
-    print_if(fd, start < from, b"   ");
-    print_bytes(fd, text, from, at, Row::Below);
-    print_if(fd, true, b"^\n");
+    print_if(rt, stream, start < from, b"...");
+    print_bytes(rt, stream, text, from, to, Row::Shown);
+    print_if(rt, stream, goes_on(text, to), b"...");
+    print_if(rt, stream, true, b"\n");
+    print_if(rt, stream, start < from, b"   ");
+    print_bytes(rt, stream, text, from, at, Row::Below);
+    print_if(rt, stream, true, b"^\n");
 }
