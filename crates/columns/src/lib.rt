@@ -1,8 +1,10 @@
 // What is shown, put together in columns and printed a buffer at a time: a write for each word takes too long.
 #![tactic(auto)]
-ghost use Rattle.std.specs.Prelude.{◌≡◌, ◌-◌, ◌<◌, max, nat_abs};
-ghost use Rattle.io.specs.Digits.{hex_digit_ascii};
 
+ghost use Rattle.std.specs.Prelude.{◌≡◌, ◌-◌, ◌<◌, max, nat_abs};
+ghost use Rattle.columns.specs.Digits.{hex_digit_ascii};
+
+use itoa::Buffer;
 use printing::print_text;
 
 // No column lies further out; what runs on past it is counted no more.
@@ -34,23 +36,23 @@ fn column_after(column: usize, b: u8) -> usize {
 }
 
 // A full buffer is printed, and filled anew.
-pub fn put_byte(out: &mut [u8; 4096], c: Cursor, b: u8) -> Cursor {
+pub fn put_byte(rt: HostRuntime, out: &mut [u8; 4096], c: Cursor, b: u8) -> Cursor {
     let at = c.at;
     let column = column_after(c.column, b);
     if at < 4096 {
         out[at] = b;
         return Cursor { at: at + 1, column };
     }
-    print_text(out);
+    print_text(rt, out);
     out[0] = b;
     Cursor { at: 1, column }
 }
 
-pub fn put_text(out: &mut [u8; 4096], c: Cursor, text: &[u8]) -> Cursor {
+pub fn put_text(rt: HostRuntime, out: &mut [u8; 4096], c: Cursor, text: &[u8]) -> Cursor {
     let mut c = c;
     let mut i = 0;
     while i < text.len() {
-        c = put_byte(out, c, text[i]);
+        c = put_byte(rt, out, c, text[i]);
         i += 1;
     }
     c
@@ -71,28 +73,20 @@ fn gap(at: usize, column: usize) -> usize
 }
 
 // Spaces up to a column; what has run on past it is parted from what follows all the same.
-pub fn put_column(out: &mut [u8; 4096], c: Cursor, column: usize) -> Cursor {
+pub fn put_column(rt: HostRuntime, out: &mut [u8; 4096], c: Cursor, column: usize) -> Cursor {
     let n = gap(c.column, column);
     let mut c = c;
     let mut i = 0;
     while i < n {
-        c = put_byte(out, c, b' ');
+        c = put_byte(rt, out, c, b' ');
         i += 1;
     }
     c
 }
 
-pub fn put_number(out: &mut [u8; 4096], c: Cursor, n: u64) -> Cursor {
-    let mut digits = [0u8; 20];
-    let k = io::decimal(n, &mut digits);
-    put_text(out, c, &digits[..k])
-}
-
-// A double's bits, 16 hexadecimal digits.
-pub fn put_bits(out: &mut [u8; 4096], c: Cursor, bits: u64) -> Cursor {
-    let mut digits = [0u8; 16];
-    let k = io::hex(bits, 16, &mut digits);
-    put_text(out, c, &digits[..k])
+pub fn put_number(rt: HostRuntime, out: &mut [u8; 4096], c: Cursor, n: u64) -> Cursor {
+    let mut digits = Buffer::new();
+    put_text(rt, out, c, digits.format(n).as_bytes())
 }
 
 fn hex_digit(n: u8) -> u8
@@ -102,19 +96,28 @@ fn hex_digit(n: u8) -> u8
     if n < 10 { 48 + n } else { 87 + n }
 }
 
+// A double's bits, 16 hexadecimal digits.
+pub fn put_bits(rt: HostRuntime, out: &mut [u8; 4096], c: Cursor, bits: u64) -> Cursor {
+    let mut c = c;
+    for i in 0..16u32 {
+        c = put_byte(rt, out, c, hex_digit(((bits >> (60 - 4 * i)) % 16) as u8));
+    }
+    c
+}
+
 // A byte as two hexadecimal digits.
-pub fn put_pair(out: &mut [u8; 4096], c: Cursor, b: u8) -> Cursor {
-    let c = put_byte(out, c, hex_digit(b / 16));
-    put_byte(out, c, hex_digit(b % 16))
+pub fn put_pair(rt: HostRuntime, out: &mut [u8; 4096], c: Cursor, b: u8) -> Cursor {
+    let c = put_byte(rt, out, c, hex_digit(b / 16));
+    put_byte(rt, out, c, hex_digit(b % 16))
 }
 
 // Each byte with a space before it.
-pub fn put_bytes(out: &mut [u8; 4096], c: Cursor, bytes: &[u8]) -> Cursor {
+pub fn put_bytes(rt: HostRuntime, out: &mut [u8; 4096], c: Cursor, bytes: &[u8]) -> Cursor {
     let mut c = c;
     let mut i = 0;
     while i < bytes.len() {
-        c = put_byte(out, c, b' ');
-        c = put_pair(out, c, bytes[i]);
+        c = put_byte(rt, out, c, b' ');
+        c = put_pair(rt, out, c, bytes[i]);
         i += 1;
     }
     c
@@ -136,41 +139,47 @@ pub fn widened(n: i32) -> i64
     n as i64
 }
 
-pub fn put_integer(out: &mut [u8; 4096], c: Cursor, n: i64) -> Cursor {
+pub fn put_integer(rt: HostRuntime, out: &mut [u8; 4096], c: Cursor, n: i64) -> Cursor {
     if n < 0 {
-        let c = put_byte(out, c, b'-');
-        return put_number(out, c, size(n));
+        let c = put_byte(rt, out, c, b'-');
+        return put_number(rt, out, c, size(n));
     }
-    put_number(out, c, size(n))
+    put_number(rt, out, c, size(n))
 }
 
 // A number with its sign; 0 has none.
-pub fn put_signed(out: &mut [u8; 4096], c: Cursor, n: i64) -> Cursor {
+pub fn put_signed(rt: HostRuntime, out: &mut [u8; 4096], c: Cursor, n: i64) -> Cursor {
     if 0 < n {
-        let c = put_byte(out, c, b'+');
-        return put_integer(out, c, n);
+        let c = put_byte(rt, out, c, b'+');
+        return put_integer(rt, out, c, n);
     }
-    put_integer(out, c, n)
+    put_integer(rt, out, c, n)
 }
 
 // So many of a thing, `1 byte` and `2 bytes`.
-pub fn put_count(out: &mut [u8; 4096], c: Cursor, n: usize, what: &[u8]) -> Cursor {
-    let c = put_number(out, c, n as u64);
-    let c = put_byte(out, c, b' ');
-    let c = put_text(out, c, what);
+pub fn put_count(
+    rt: HostRuntime,
+    out: &mut [u8; 4096],
+    c: Cursor,
+    n: usize,
+    what: &[u8],
+) -> Cursor {
+    let c = put_number(rt, out, c, n as u64);
+    let c = put_byte(rt, out, c, b' ');
+    let c = put_text(rt, out, c, what);
     if n == 1 {
         return c;
     }
-    put_byte(out, c, b's')
+    put_byte(rt, out, c, b's')
 }
 
-fn print_front(out: &[u8], n: usize) {
+fn print_front(rt: HostRuntime, out: &[u8], n: usize) {
     if n <= out.len() {
-        print_text(&out[0..n]);
+        print_text(rt, &out[0..n]);
     }
 }
 
 // Prints what is left in the buffer.
-pub fn finish(out: &[u8; 4096], c: Cursor) {
-    print_front(out, c.at);
+pub fn finish(rt: HostRuntime, out: &[u8; 4096], c: Cursor) {
+    print_front(rt, out, c.at);
 }
