@@ -264,21 +264,21 @@ pub fn ended(c: Cursor, next: usize) -> Cursor {
 
 // ---- what the programs print
 
-pub fn print_count(n: u64, what: &[u8]) {
-    print_number(n);
-    print_text(what);
+pub fn print_count(rt: HostRuntime, n: u64, what: &[u8]) {
+    print_number(rt, n);
+    print_text(rt, what);
 }
 
 // Which text of all differs, the file, and the byte there of the first number that was not as expected; nothing where all were.
-pub fn print_difference(text: u64, path: &[u8], wrong: usize) {
+pub fn print_difference(rt: HostRuntime, text: u64, path: &[u8], wrong: usize) {
     if wrong == 0 {
         return;
     }
-    print_text(b"text ");
-    print_number(text);
-    print_text(b" differs, ");
-    print_text(path);
-    print_text(b" byte ");
-    print_number(wrong as u64);
-    print_text(b"\n");
+    print_text(rt, b"text ");
+    print_number(rt, text);
+    print_text(rt, b" differs, ");
+    print_text(rt, path);
+    print_text(rt, b" byte ");
+    print_number(rt, wrong as u64);
+    print_text(rt, b"\n");
 }
