@@ -1,5 +1,6 @@
 // What was expected at the place of a refusal 6, in a sentence for the author of a patch.
 #![tactic(auto)]
+
 mod sentence;
 mod stands;
 
@@ -7,6 +8,7 @@ ghost use Rattle.std.specs.Prelude.{◌≤◌};
 
 use classes::count_at;
 use names::ActionName;
+use printing::Stream;
 use sentence::{Sentence, behind_brace, print_sentence, sentence_of};
 use shapes::Shape;
 pub use stands::start_of;
@@ -275,9 +277,14 @@ fn sentence_for(text: &[u8], tokens: &[u64], index: usize, stands: Stands) -> Se
 }
 
 // Says what was expected at the token of a refusal 6. `tokens` are those of the text, and no more.
-pub fn print_expected(fd: i32, text: &[u8], tokens: &[u64], index: usize) {
+pub fn print_expected(rt: HostRuntime, stream: Stream, text: &[u8], tokens: &[u64], index: usize) {
     let stands = stands_at(text, tokens, index);
-    print_sentence(fd, sentence_for(text, tokens, index, stands), stands);
+    print_sentence(
+        rt,
+        stream,
+        sentence_for(text, tokens, index, stands),
+        stands,
+    );
 }
 
 fn before(index: usize) -> usize {

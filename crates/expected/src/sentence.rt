@@ -1,7 +1,7 @@
 // The sentences: what was expected in an action, by its shape, the number of the operand and what stands there. docs/FORMAT.md lists
 // them.
 use crate::stands::Stands;
-use printing::write_text;
+use printing::{Stream, write_text};
 use shapes::Shape;
 use wanted::{Wanted, wanted_at};
 
@@ -194,193 +194,241 @@ pub fn sentence_of(
 
 // ---- the words
 
-fn print_wanted(fd: i32, w: Wanted) {
+fn print_wanted(rt: HostRuntime, stream: Stream, w: Wanted) {
     match w {
-        Wanted::Nothing => write_text(fd, b"nothing"),
-        Wanted::String => write_text(fd, b"a string"),
-        Wanted::Value => write_text(fd, b"a value"),
-        Wanted::Bool => write_text(fd, b"true or false"),
-        Wanted::Flag => write_text(fd, b"true or false (nine of them)"),
-        Wanted::U8 => write_text(fd, b"a whole number from 0 to 255"),
-        Wanted::U16 => write_text(fd, b"a whole number from 0 to 65,535"),
-        Wanted::Count => write_text(fd, b"a count (a whole number up to 2,147,483,647)"),
-        Wanted::Parameter => write_text(fd, b"a string (as many as the count says)"),
+        Wanted::Nothing => write_text(rt, stream, b"nothing"),
+        Wanted::String => write_text(rt, stream, b"a string"),
+        Wanted::Value => write_text(rt, stream, b"a value"),
+        Wanted::Bool => write_text(rt, stream, b"true or false"),
+        Wanted::Flag => write_text(rt, stream, b"true or false (nine of them)"),
+        Wanted::U8 => write_text(rt, stream, b"a whole number from 0 to 255"),
+        Wanted::U16 => write_text(rt, stream, b"a whole number from 0 to 65,535"),
+        Wanted::Count => write_text(rt, stream, b"a count (a whole number up to 2,147,483,647)"),
+        Wanted::Parameter => write_text(rt, stream, b"a string (as many as the count says)"),
         Wanted::Register => {
             write_text(
-                fd,
+                rt,
+                stream,
                 b"a whole number from 0 to 255 (with a string, as often as the count says)",
             )
         }
-        Wanted::Label => write_text(fd, b"a label's name"),
-        Wanted::Target => write_text(fd, b"a string, a register or `{`"),
+        Wanted::Label => write_text(rt, stream, b"a label's name"),
+        Wanted::Target => write_text(rt, stream, b"a string, a register or `{`"),
     }
 }
 
 // The end of the line or of the text is told first: it is not seen under the mark.
-fn print_early(fd: i32, stands: Stands) {
+fn print_early(rt: HostRuntime, stream: Stream, stands: Stands) {
     match stands {
-        Stands::Newline => write_text(fd, b"the line ends too early: "),
-        Stands::End => write_text(fd, b"the text ends too early: "),
+        Stands::Newline => write_text(rt, stream, b"the line ends too early: "),
+        Stands::End => write_text(rt, stream, b"the text ends too early: "),
         _ => {}
     }
 }
 
-fn print_name_hint(fd: i32, stands: Stands) {
+fn print_name_hint(rt: HostRuntime, stream: Stream, stands: Stands) {
     match stands {
-        Stands::String => write_text(fd, b": it has no quotes"),
-        Stands::Action => write_text(fd, b": an action's name cannot be a label"),
+        Stands::String => write_text(rt, stream, b": it has no quotes"),
+        Stands::Action => write_text(rt, stream, b": an action's name cannot be a label"),
         Stands::Keyword | Stands::Catch | Stands::Finally => {
-            write_text(fd, b": this word has another meaning")
+            write_text(rt, stream, b": this word has another meaning")
         }
         _ => {}
     }
 }
 
-fn print_quote_hint(fd: i32, stands: Stands) {
+fn print_quote_hint(rt: HostRuntime, stream: Stream, stands: Stands) {
     match stands {
         Stands::Word | Stands::Action | Stands::Quote => {
-            write_text(fd, b" (a string has double quotes)")
+            write_text(rt, stream, b" (a string has double quotes)")
         }
-        Stands::Beyond => write_text(fd, b" (registers go up to 255, constants to 65,535)"),
+        Stands::Beyond => write_text(
+            rt,
+            stream,
+            b" (registers go up to 255, constants to 65,535)",
+        ),
         _ => {}
     }
 }
 
-fn print_target_hint(fd: i32, stands: Stands) {
+fn print_target_hint(rt: HostRuntime, stream: Stream, stands: Stands) {
     match stands {
-        Stands::Newline => write_text(fd, b" on the same line"),
-        _ => print_quote_hint(fd, stands),
+        Stands::Newline => write_text(rt, stream, b" on the same line"),
+        _ => print_quote_hint(rt, stream, stands),
     }
 }
 
-fn print_hint(fd: i32, w: Wanted, stands: Stands) {
+fn print_hint(rt: HostRuntime, stream: Stream, w: Wanted, stands: Stands) {
     match w {
-        Wanted::Label => print_name_hint(fd, stands),
-        Wanted::String | Wanted::Value | Wanted::Parameter => print_quote_hint(fd, stands),
-        Wanted::Target => print_target_hint(fd, stands),
+        Wanted::Label => print_name_hint(rt, stream, stands),
+        Wanted::String | Wanted::Value | Wanted::Parameter => print_quote_hint(rt, stream, stands),
+        Wanted::Target => print_target_hint(rt, stream, stands),
         _ => {}
     }
 }
 
-fn print_operand(fd: i32, w: Wanted, stands: Stands) {
-    print_early(fd, stands);
-    print_wanted(fd, w);
-    write_text(fd, b" was expected");
-    print_hint(fd, w, stands);
+fn print_operand(rt: HostRuntime, stream: Stream, w: Wanted, stands: Stands) {
+    print_early(rt, stream, stands);
+    print_wanted(rt, stream, w);
+    write_text(rt, stream, b" was expected");
+    print_hint(rt, stream, w, stands);
 }
 
-fn print_operand_or_end(fd: i32, w: Wanted, stands: Stands) {
-    print_wanted(fd, w);
-    write_text(fd, b" or the end of the line was expected");
-    print_hint(fd, w, stands);
+fn print_operand_or_end(rt: HostRuntime, stream: Stream, w: Wanted, stands: Stands) {
+    print_wanted(rt, stream, w);
+    write_text(rt, stream, b" or the end of the line was expected");
+    print_hint(rt, stream, w, stands);
 }
 
-fn print_comma_then(fd: i32, w: Wanted, stands: Stands) {
-    print_early(fd, stands);
-    write_text(fd, b"a comma was expected, then ");
-    print_wanted(fd, w);
+fn print_comma_then(rt: HostRuntime, stream: Stream, w: Wanted, stands: Stands) {
+    print_early(rt, stream, stands);
+    write_text(rt, stream, b"a comma was expected, then ");
+    print_wanted(rt, stream, w);
 }
 
-fn print_brace(fd: i32, stands: Stands) {
-    print_early(fd, stands);
+fn print_brace(rt: HostRuntime, stream: Stream, stands: Stands) {
+    print_early(rt, stream, stands);
     match stands {
-        Stands::Newline => write_text(fd, b"`{` was expected on the same line"),
-        _ => write_text(fd, b"`{` was expected"),
+        Stands::Newline => write_text(rt, stream, b"`{` was expected on the same line"),
+        _ => write_text(rt, stream, b"`{` was expected"),
     }
 }
 
-pub fn print_sentence(fd: i32, s: Sentence, stands: Stands) {
+pub fn print_sentence(rt: HostRuntime, stream: Stream, s: Sentence, stands: Stands) {
     match s {
-        Sentence::Operand(w) => print_operand(fd, w, stands),
-        Sentence::OperandOrEnd(w) => print_operand_or_end(fd, w, stands),
-        Sentence::CommaThen(w) => print_comma_then(fd, w, stands),
-        Sentence::CommaOrEnd => write_text(fd, b"a comma or the end of the line was expected"),
-        Sentence::Brace => print_brace(fd, stands),
+        Sentence::Operand(w) => print_operand(rt, stream, w, stands),
+        Sentence::OperandOrEnd(w) => print_operand_or_end(rt, stream, w, stands),
+        Sentence::CommaThen(w) => print_comma_then(rt, stream, w, stands),
+        Sentence::CommaOrEnd => write_text(
+            rt,
+            stream,
+            b"a comma or the end of the line was expected",
+        ),
+        Sentence::Brace => print_brace(rt, stream, stands),
         Sentence::BraceByCount => {
             write_text(
-                fd,
+                rt,
+                stream,
                 b"`{` was expected: the count says how many parameters there are",
             )
         }
         Sentence::BraceNoMore => {
-            write_text(fd, b"`{` was expected: this action takes no more operands")
+            write_text(
+                rt,
+                stream,
+                b"`{` was expected: this action takes no more operands",
+            )
         }
-        Sentence::LineEnd => write_text(fd, b"the end of the line was expected"),
+        Sentence::LineEnd => write_text(rt, stream, b"the end of the line was expected"),
         Sentence::NoOperands => {
             write_text(
-                fd,
+                rt,
+                stream,
                 b"the end of the line was expected: this action takes no operands",
             )
         }
         Sentence::NoMoreOperands => {
             write_text(
-                fd,
+                rt,
+                stream,
                 b"the end of the line was expected: this action takes no more operands",
             )
         }
         Sentence::NoBlock => {
             write_text(
-                fd,
+                rt,
+                stream,
                 b"the end of the line was expected: no block can stand here",
             )
         }
-        Sentence::LineBeforeBrace => write_text(fd, b"a new line was expected before `}`"),
-        Sentence::LineBeforeCatch => write_text(fd, b"a new line was expected before catch"),
-        Sentence::LineBeforeFinally => write_text(fd, b"a new line was expected before finally"),
+        Sentence::LineBeforeBrace => write_text(rt, stream, b"a new line was expected before `}`"),
+        Sentence::LineBeforeCatch => write_text(
+            rt,
+            stream,
+            b"a new line was expected before catch",
+        ),
+        Sentence::LineBeforeFinally => write_text(
+            rt,
+            stream,
+            b"a new line was expected before finally",
+        ),
         Sentence::OneToALine => {
             write_text(
-                fd,
+                rt,
+                stream,
                 b"the end of the line was expected: each action has its own line",
             )
         }
-        Sentence::ActionAsLabel => write_text(fd, b"an action's name cannot be a label"),
-        Sentence::NoSuchAction => write_text(fd, b"no such action, or a label without its colon"),
+        Sentence::ActionAsLabel => write_text(rt, stream, b"an action's name cannot be a label"),
+        Sentence::NoSuchAction => write_text(
+            rt,
+            stream,
+            b"no such action, or a label without its colon",
+        ),
         Sentence::KeywordAsLabel => {
-            write_text(fd, b"this word has another meaning and cannot be a label")
+            write_text(
+                rt,
+                stream,
+                b"this word has another meaning and cannot be a label",
+            )
         }
-        Sentence::ActionOrLabel => write_text(fd, b"an action or a label was expected"),
-        Sentence::ActionLabelOrBrace => write_text(fd, b"an action, a label or `}` was expected"),
-        Sentence::NotOpen => write_text(fd, b"no block is open here that `}` could close"),
+        Sentence::ActionOrLabel => write_text(rt, stream, b"an action or a label was expected"),
+        Sentence::ActionLabelOrBrace => write_text(
+            rt,
+            stream,
+            b"an action, a label or `}` was expected",
+        ),
+        Sentence::NotOpen => write_text(rt, stream, b"no block is open here that `}` could close"),
         Sentence::BraceAlone => {
             write_text(
-                fd,
+                rt,
+                stream,
                 b"`{` stands on the line of its action, behind the operands",
             )
         }
         Sentence::HandlerAlone => {
             write_text(
-                fd,
+                rt,
+                stream,
                 b"catch and finally stand behind a Try's block, each once and in this order",
             )
         }
         Sentence::InsideBlock => {
-            write_text(fd, b"the text ends inside a block: `}` was expected")
+            write_text(
+                rt,
+                stream,
+                b"the text ends inside a block: `}` was expected",
+            )
         }
         Sentence::NameCut => {
             write_text(
-                fd,
+                rt,
+                stream,
                 b"a name has the letters a to z, digits, _ and $, and nothing else",
             )
         }
-        Sentence::Comment => write_text(fd, b"there are no comments in a patch"),
+        Sentence::Comment => write_text(rt, stream, b"there are no comments in a patch"),
         Sentence::Semicolon => {
             write_text(
-                fd,
+                rt,
+                stream,
                 b"the end of the line ends an action, and there are no comments in a patch",
             )
         }
-        Sentence::Space => write_text(fd, b"this is no plain space: type it again"),
+        Sentence::Space => write_text(rt, stream, b"this is no plain space: type it again"),
         Sentence::ByteOrderMark => {
             write_text(
-                fd,
+                rt,
+                stream,
                 b"a byte order mark cannot stand here: save the file without one",
             )
         }
-        Sentence::Control => write_text(fd, b"a control character cannot stand here"),
+        Sentence::Control => write_text(rt, stream, b"a control character cannot stand here"),
         Sentence::Exponent => write_text(
-            fd,
+            rt,
+            stream,
             b"end the line: an exponent's digits are not taken where they run to the end of the text",
         ),
-        Sentence::Digitless => write_text(fd, b"a digit is missing in this number"),
+        Sentence::Digitless => write_text(rt, stream, b"a digit is missing in this number"),
     }
 }

@@ -2,21 +2,21 @@
 // expected there and the line with a mark. The last line says how many were refused. The script pcode-check at the root has the options
 // and makes the exit status.
 #![tactic(auto)]
+
 use as2_pcode::{Counts, Reading};
 use files::{Input, Outcome, Tally};
-use libc::{STDERR_FILENO, STDOUT_FILENO};
-use printing::{print_number, print_text};
+use printing::{Stream, print_number, print_text, write_text};
 use reporting::print_name;
-use std::num::wrapping_add_u64;
+use std::env::Env;
 
-fn print_ok(name: &[u8], c: Counts) {
-    print_name(STDOUT_FILENO, name);
-    print_text(b": ok, ");
-    reporting::print_counts(c.actions, c.operands, c.levels, c.labels);
+fn print_ok(rt: HostRuntime, name: &[u8], c: Counts) {
+    print_name(rt, Stream::Output, name);
+    print_text(rt, b": ok, ");
+    reporting::print_counts(rt, c.actions, c.operands, c.levels, c.labels);
 }
 
 // An entry of each table but the tokens' takes two bytes of text or more, the top level none. That of a level has two words.
-fn check_text(name: &[u8], text: &[u8]) -> Outcome {
+fn check_text(rt: HostRuntime, name: &[u8], text: &[u8]) -> Outcome {
     let mut tokens = [0u64; 65536];
     let mut actions = [0u64; 32769];
     let mut operands = [0u64; 32769];
@@ -32,47 +32,48 @@ fn check_text(name: &[u8], text: &[u8]) -> Outcome {
     );
     match reading {
         Reading::Read(c) => {
-            print_ok(name, c);
-            Outcome::Read(reporting::print_warnings(name, text, &tokens, &operands, c.operands))
+            print_ok(rt, name, c);
+            Outcome::Read(reporting::print_warnings(rt, name, text, &tokens, &operands, c.operands))
         }
         Reading::Refused(r) => {
-            reporting::print_refused(STDOUT_FILENO, name, text, &mut tokens, r);
+            reporting::print_refused(rt, Stream::Output, name, text, &mut tokens, r);
             Outcome::Refused
         }
     }
 }
 
 // A text of one byte over the limit is enough to refuse it.
-fn check_file(name: &[u8]) -> Outcome {
+fn check_file(rt: HostRuntime, name: &[u8]) -> Outcome {
     let mut text = [0u8; 65537];
-    match files::read_file(b"pcode-check", name, &mut text) {
-        Input::Bytes(n) => check_text(name, views::part(&text, 0, n)),
+    match files::read_file(rt, b"pcode-check", name, &mut text) {
+        Input::Bytes(n) => check_text(rt, name, views::part(&text, 0, n)),
         Input::Failed => Outcome::Failed,
     }
 }
 
-fn check_argument(i: usize) -> Outcome {
-    let mut name = io::buffer();
-    let n = os::arg(i, &mut name);
-    if os::errno() != 0 {
-        files::say_unread(b"pcode-check", b"an argument");
-        return Outcome::Failed;
+fn check_argument(rt: HostRuntime, i: usize) -> Outcome {
+    let mut name = [0u8; 4096];
+    match rt.arg(i, &mut name) {
+        Ok(n) => check_file(rt, &name[..n]),
+        Err(_) => {
+            files::say_long_argument(rt, b"pcode-check");
+            Outcome::Failed
+        }
     }
-    check_file(&name[..n])
 }
 
 // The arguments from 1 on: argument 0 is the program.
-fn check_arguments(count: usize) -> Tally {
+fn check_arguments(rt: HostRuntime, count: usize) -> Tally {
     let mut refused: u64 = 0;
     let mut failed: u64 = 0;
     let mut warnings: u64 = 0;
     let mut i = 1;
     while i < count {
-        let outcome = check_argument(i);
+        let outcome = check_argument(rt, i);
         refused += files::one_if_refused(outcome);
         failed += files::one_if_failed(outcome);
         // nothing prints so many that the sum wraps
-        warnings = wrapping_add_u64(warnings, files::warnings_of(outcome));
+        warnings = warnings.wrapping_add(files::warnings_of(outcome));
         i += 1;
     }
     Tally {
@@ -82,31 +83,31 @@ fn check_arguments(count: usize) -> Tally {
     }
 }
 
-fn print_tally(t: Tally, count: usize) {
-    print_number(t.refused);
-    print_text(b" of ");
-    reporting::print_count(count as u64, b"file");
-    print_text(b" refused");
+fn print_tally(rt: HostRuntime, t: Tally, count: usize) {
+    print_number(rt, t.refused);
+    print_text(rt, b" of ");
+    reporting::print_count(rt, count as u64, b"file");
+    print_text(rt, b" refused");
     if 0 < t.failed {
-        print_text(b", ");
-        print_number(t.failed);
-        print_text(b" could not be read");
+        print_text(rt, b", ");
+        print_number(rt, t.failed);
+        print_text(rt, b" could not be read");
     }
     if 0 < t.warnings {
-        print_text(b", ");
-        reporting::print_count(t.warnings, b"warning");
+        print_text(rt, b", ");
+        reporting::print_count(rt, t.warnings, b"warning");
     }
-    print_text(b"\n");
+    print_text(rt, b"\n");
 }
 
-fn main() {
-    let count = os::arg_count();
+fn main(rt: HostRuntime) {
+    let count = files::argument_count(rt);
     if count < 2 {
-        io::write_all(STDERR_FILENO, b"usage: pcode-check FILE..\n");
-        files::tell_status(2);
+        write_text(rt, Stream::Errors, b"usage: pcode-check FILE..\n");
+        files::tell_status(rt, 2);
         return;
     }
-    let t = check_arguments(count);
-    print_tally(t, count - 1);
-    files::tell_status(files::status_of(t));
+    let t = check_arguments(rt, count);
+    print_tally(rt, t, count - 1);
+    files::tell_status(rt, files::status_of(t));
 }

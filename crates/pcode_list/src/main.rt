@@ -1,13 +1,13 @@
 // Program `pcode-list`: lists the p-code text on standard input, as document 01 says. The script pcode-list at the root has the options and
 // makes the exit status.
 #![tactic(auto)]
+
 ghost use Rattle.handover.specs.Reading.{lent};
 ghost use Rattle.pcode_list.specs.Listed.{Listed, NeverShort};
 
 use answers::Refusal;
 use as2_pcode::Reading;
 use files::Input;
-use libc::STDIN_FILENO;
 
 // Reads a text of at most 4,096 bytes into tables that hold any such text.
 fn read_listed(
@@ -29,6 +29,7 @@ fn read_listed(
 
 // A parameter that is an array has its length by its type, so lending it on asks no proof.
 fn print_listed(
+    rt: HostRuntime,
     text: &[u8],
     tokens: &[u64; 4096],
     actions: &[u64; 4097],
@@ -36,7 +37,7 @@ fn print_listed(
     labels: &[u64; 4097],
     r: Reading,
 ) {
-    listing::print_reading(text, tokens, actions, operands, labels, r);
+    listing::print_reading(rt, text, tokens, actions, operands, labels, r);
 }
 
 // 0: listed; 1: refused.
@@ -47,7 +48,7 @@ fn status_of(r: Reading) -> u64 {
     }
 }
 
-fn list(text: &[u8]) {
+fn list(rt: HostRuntime, text: &[u8]) {
     let mut tokens = [0u64; 4096];
     let mut actions = [0u64; 4097];
     let mut operands = [0u64; 4097];
@@ -61,20 +62,15 @@ fn list(text: &[u8]) {
         &mut levels,
         &mut labels,
     );
-    print_listed(text, &tokens, &actions, &operands, &labels, r);
-    files::tell_status(status_of(r));
-}
-
-fn fail() {
-    os::fail(b"pcode-list: standard input");
-    files::tell_status(2);
+    print_listed(rt, text, &tokens, &actions, &operands, &labels, r);
+    files::tell_status(rt, status_of(r));
 }
 
 // A byte more than is listed tells that there are more.
-fn main() {
+fn main(rt: HostRuntime) {
     let mut input = [0u8; 4097];
-    match files::read_input(STDIN_FILENO, &mut input) {
-        Input::Bytes(n) => list(&input[..n]),
-        Input::Failed => fail(),
+    match files::read_standard_input(rt, b"pcode-list", &mut input) {
+        Input::Bytes(n) => list(rt, &input[..n]),
+        Input::Failed => files::tell_status(rt, 2),
     }
 }

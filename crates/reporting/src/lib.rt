@@ -1,41 +1,48 @@
 // What a program says of a text: how much was read, and what it warns of; or where it is refused, what that means, and the line with a
 // mark under the place.
 #![tactic(auto)]
+
 mod uncoded;
 mod warning;
 
 use answers::Refusal;
 use lexer::Lexing;
-use printing::{print_number, print_text, write_number, write_text};
+use printing::{Stream, print_number, print_text, write_number, write_text};
 pub use warning::{print_warnings, put_lost};
 
-pub fn print_name(fd: i32, name: &[u8]) {
+pub fn print_name(rt: HostRuntime, stream: Stream, name: &[u8]) {
     if files::is_standard_input(name) {
-        write_text(fd, b"(standard input)");
+        write_text(rt, stream, b"(standard input)");
         return;
     }
-    views::print_name(fd, name);
+    views::print_name(rt, stream, name);
 }
 
 // So many of a thing.
-pub fn print_count(n: u64, what: &[u8]) {
-    print_number(n);
-    print_text(b" ");
-    print_text(what);
+pub fn print_count(rt: HostRuntime, n: u64, what: &[u8]) {
+    print_number(rt, n);
+    print_text(rt, b" ");
+    print_text(rt, what);
     if n != 1 {
-        print_text(b"s");
+        print_text(rt, b"s");
     }
 }
 
-pub fn print_counts(actions: usize, operands: usize, levels: usize, labels: usize) {
-    print_count(actions as u64, b"action");
-    print_text(b", ");
-    print_count(operands as u64, b"operand");
-    print_text(b", ");
-    print_count(levels as u64, b"level");
-    print_text(b", ");
-    print_count(labels as u64, b"label");
-    print_text(b"\n");
+pub fn print_counts(
+    rt: HostRuntime,
+    actions: usize,
+    operands: usize,
+    levels: usize,
+    labels: usize,
+) {
+    print_count(rt, actions as u64, b"action");
+    print_text(rt, b", ");
+    print_count(rt, operands as u64, b"operand");
+    print_text(rt, b", ");
+    print_count(rt, levels as u64, b"level");
+    print_text(rt, b", ");
+    print_count(rt, labels as u64, b"label");
+    print_text(rt, b"\n");
 }
 
 // The byte to mark: rows 6 and 7 name a token, 10 and 11 an action.
@@ -51,33 +58,39 @@ fn byte_of(text: &[u8], tokens: &[u64], r: Refusal) -> usize {
     }
 }
 
-fn print_meaning(fd: i32, text: &[u8], tokens: &[u64], r: Refusal) {
+fn print_meaning(rt: HostRuntime, stream: Stream, text: &[u8], tokens: &[u64], r: Refusal) {
     match r {
-        Refusal::TooLong => write_text(fd, b"longer than 65,536 bytes"),
-        Refusal::NotUtf8(_) => write_text(fd, b"not UTF-8"),
-        Refusal::LoneQuote(_) => write_text(fd, b"this quote opens a string that is not closed"),
+        Refusal::TooLong => write_text(rt, stream, b"longer than 65,536 bytes"),
+        Refusal::NotUtf8(_) => write_text(rt, stream, b"not UTF-8"),
+        Refusal::LoneQuote(_) => write_text(
+            rt,
+            stream,
+            b"this quote opens a string that is not closed",
+        ),
         Refusal::CutCharacter(_) => {
             write_text(
-                fd,
+                rt,
+                stream,
                 b"this string is not closed, and ends in a character over one byte",
             )
         }
-        Refusal::TokenTableShort(_) => write_text(fd, b"too many tokens for this program"),
-        Refusal::NotGrammatical(k) => expected::print_expected(fd, text, tokens, k),
-        Refusal::NoValue => write_text(fd, b"no value"),
-        Refusal::TooDeep(_) => write_text(fd, b"more than 64 blocks inside one another"),
-        Refusal::TableShort(_) => write_text(fd, b"too many entries for this program"),
-        Refusal::Undetermined => write_text(fd, b"an undetermined stack effect"),
+        Refusal::TokenTableShort(_) => write_text(rt, stream, b"too many tokens for this program"),
+        Refusal::NotGrammatical(k) => expected::print_expected(rt, stream, text, tokens, k),
+        Refusal::NoValue => write_text(rt, stream, b"no value"),
+        Refusal::TooDeep(_) => write_text(rt, stream, b"more than 64 blocks inside one another"),
+        Refusal::TableShort(_) => write_text(rt, stream, b"too many entries for this program"),
+        Refusal::Undetermined => write_text(rt, stream, b"an undetermined stack effect"),
         Refusal::NoLabel(_) => {
             write_text(
-                fd,
+                rt,
+                stream,
                 b"this level has no such label: a jump reaches labels of its own level only",
             )
         }
-        Refusal::Uncodable(k) => uncoded::print_uncodable(fd, tokens, k),
-        Refusal::OutputShort(_) => write_text(fd, b"too many bytes for this program"),
+        Refusal::Uncodable(k) => uncoded::print_uncodable(rt, stream, tokens, k),
+        Refusal::OutputShort(_) => write_text(rt, stream, b"too many bytes for this program"),
         // reading and export give no other
-        _ => write_text(fd, b""),
+        _ => write_text(rt, stream, b""),
     }
 }
 
@@ -95,11 +108,11 @@ fn has_place(r: Refusal) -> bool {
     }
 }
 
-fn print_place(fd: i32, line: usize, column: usize) {
-    write_text(fd, b":");
-    write_number(fd, line as u64);
-    write_text(fd, b":");
-    write_number(fd, column as u64);
+fn print_place(rt: HostRuntime, stream: Stream, line: usize, column: usize) {
+    write_text(rt, stream, b":");
+    write_number(rt, stream, line as u64);
+    write_text(rt, stream, b":");
+    write_number(rt, stream, column as u64);
 }
 
 // What of a text may be shown: where it is not UTF-8, the part before that.
@@ -111,29 +124,42 @@ fn shown<'a>(text: &'a [u8], r: Refusal) -> &'a [u8] {
     views::part(text, 0, end)
 }
 
-fn print_number_of(fd: i32, r: Refusal, with_place: bool) {
-    write_text(fd, b": refused ");
-    write_number(fd, answers::refusal_number(r));
+fn print_number_of(rt: HostRuntime, stream: Stream, r: Refusal, with_place: bool) {
+    write_text(rt, stream, b": refused ");
+    write_number(rt, stream, answers::refusal_number(r));
     if with_place {
-        write_text(fd, b" at ");
-        write_number(fd, answers::refusal_place(r) as u64);
+        write_text(rt, stream, b" at ");
+        write_number(rt, stream, answers::refusal_place(r) as u64);
     }
-    write_text(fd, b": ");
+    write_text(rt, stream, b": ");
 }
 
 // One line that says what is wrong, and two that show it where it has a place.
-fn print_report(fd: i32, name: &[u8], text: &[u8], tokens: &[u64], r: Refusal, with_place: bool) {
+fn print_report(
+    rt: HostRuntime,
+    stream: Stream,
+    name: &[u8],
+    text: &[u8],
+    tokens: &[u64],
+    r: Refusal,
+    with_place: bool,
+) {
     let at = byte_of(text, tokens, r);
     let placed = has_place(r);
-    print_name(fd, name);
+    print_name(rt, stream, name);
     if placed {
-        print_place(fd, places::line_at(text, at), places::column_at(text, at));
+        print_place(
+            rt,
+            stream,
+            places::line_at(text, at),
+            places::column_at(text, at),
+        );
     }
-    print_number_of(fd, r, with_place);
-    print_meaning(fd, text, tokens, r);
-    write_text(fd, b"\n");
+    print_number_of(rt, stream, r, with_place);
+    print_meaning(rt, stream, text, tokens, r);
+    write_text(rt, stream, b"\n");
     if placed {
-        views::print_view(fd, shown(text, r), at);
+        views::print_view(rt, stream, shown(text, r), at);
     }
 }
 
@@ -146,13 +172,43 @@ fn lexed(text: &[u8], tokens: &mut [u64]) -> usize {
 }
 
 // Reports a refused text. A refusal leaves the token table as it was, and its place may be a token or an action: the text is lexed again.
-pub fn print_refused(fd: i32, name: &[u8], text: &[u8], tokens: &mut [u64], r: Refusal) {
+pub fn print_refused(
+    rt: HostRuntime,
+    stream: Stream,
+    name: &[u8],
+    text: &[u8],
+    tokens: &mut [u64],
+    r: Refusal,
+) {
     let n = lexed(text, tokens);
-    print_report(fd, name, text, lookups::words_from(tokens, 0, n), r, false);
+    print_report(
+        rt,
+        stream,
+        name,
+        text,
+        lookups::words_from(tokens, 0, n),
+        r,
+        false,
+    );
 }
 
 // The same with the place as the call answers it, as an export is refused.
-pub fn print_refused_at(fd: i32, name: &[u8], text: &[u8], tokens: &mut [u64], r: Refusal) {
+pub fn print_refused_at(
+    rt: HostRuntime,
+    stream: Stream,
+    name: &[u8],
+    text: &[u8],
+    tokens: &mut [u64],
+    r: Refusal,
+) {
     let n = lexed(text, tokens);
-    print_report(fd, name, text, lookups::words_from(tokens, 0, n), r, true);
+    print_report(
+        rt,
+        stream,
+        name,
+        text,
+        lookups::words_from(tokens, 0, n),
+        r,
+        true,
+    );
 }

@@ -1,5 +1,5 @@
 // What of an action cannot be exported, and where the action stands in the text.
-use printing::write_text;
+use printing::{Stream, write_text};
 use shapes::Shape;
 use tokens::TokenKind;
 
@@ -47,20 +47,25 @@ fn shape_at(tokens: &[u64], index: usize) -> Shape {
 }
 
 // Says what of action k cannot be coded, as far as its shape tells.
-pub fn print_uncodable(fd: i32, tokens: &[u64], k: usize) {
-    write_text(fd, b"cannot be coded: ");
+pub fn print_uncodable(rt: HostRuntime, stream: Stream, tokens: &[u64], k: usize) {
+    write_text(rt, stream, b"cannot be coded: ");
     match shape_at(tokens, name_token(tokens, k)) {
         Shape::Values => write_text(
-            fd,
+            rt,
+            stream,
             b"a number kept as typed (Long), a zero byte in a string, or over 65,535 bytes",
         ),
-        Shape::Identifier => write_text(fd, b"the label is over 32,767 bytes away"),
-        Shape::BoolBoolU8 => write_text(fd, b"the method is above 3"),
-        Shape::Block => write_text(fd, b"the block is over 65,535 bytes"),
+        Shape::Identifier => write_text(rt, stream, b"the label is over 32,767 bytes away"),
+        Shape::BoolBoolU8 => write_text(rt, stream, b"the method is above 3"),
+        Shape::Block => write_text(rt, stream, b"the block is over 65,535 bytes"),
         Shape::Function | Shape::Function2 | Shape::Try => {
-            write_text(fd, b"a zero byte in a string, or a block over 65,535 bytes")
+            write_text(
+                rt,
+                stream,
+                b"a zero byte in a string, or a block over 65,535 bytes",
+            )
         }
         // of the others only a string can be at fault
-        _ => write_text(fd, b"a zero byte in a string"),
+        _ => write_text(rt, stream, b"a zero byte in a string"),
     }
 }

@@ -4,8 +4,7 @@ ghost use Rattle.places.specs.Places.{line_at};
 
 use crate::{print_name, print_place};
 use columns::{Cursor, put_byte, put_pair, put_text};
-use libc::STDOUT_FILENO;
-use printing::print_text;
+use printing::{Stream, print_text};
 use scanner::byte_at;
 use tokens::Token;
 
@@ -17,57 +16,64 @@ fn lost_at(token: Token) -> usize {
     raw.end
 }
 
-fn put_quoted(out: &mut [u8; 4096], c: Cursor, b: u8) -> Cursor {
-    let c = put_byte(out, c, b'\'');
-    let c = put_byte(out, c, b);
-    put_byte(out, c, b'\'')
+fn put_quoted(rt: HostRuntime, out: &mut [u8; 4096], c: Cursor, b: u8) -> Cursor {
+    let c = put_byte(rt, out, c, b'\'');
+    let c = put_byte(rt, out, c, b);
+    put_byte(rt, out, c, b'\'')
 }
 
-fn put_code(out: &mut [u8; 4096], c: Cursor, b: u8) -> Cursor {
-    let c = put_text(out, c, b"0x");
-    put_pair(out, c, b)
+fn put_code(rt: HostRuntime, out: &mut [u8; 4096], c: Cursor, b: u8) -> Cursor {
+    let c = put_text(rt, out, c, b"0x");
+    put_pair(rt, out, c, b)
 }
 
 // A control character must reach no terminal: its number stands for it.
-fn put_letter(out: &mut [u8; 4096], c: Cursor, b: u8) -> Cursor {
+fn put_letter(rt: HostRuntime, out: &mut [u8; 4096], c: Cursor, b: u8) -> Cursor {
     match b {
-        32..=126 => put_quoted(out, c, b),
-        _ => put_code(out, c, b),
+        32..=126 => put_quoted(rt, out, c, b),
+        _ => put_code(rt, out, c, b),
     }
 }
 
 // What the string of an unclosed token lost. A reading has none that ends in a character over one byte. Where lines end with a carriage
 // return and a line feed, the string takes in the first of these, and no letter is lost.
-pub fn put_lost(out: &mut [u8; 4096], c: Cursor, text: &[u8], token: Token) -> Cursor {
+pub fn put_lost(
+    rt: HostRuntime,
+    out: &mut [u8; 4096],
+    c: Cursor,
+    text: &[u8],
+    token: Token,
+) -> Cursor {
     let b = byte_at(text, lost_at(token));
     if b == b'\r' {
         return put_text(
+            rt,
             out,
             c,
             b"the carriage return at its end is lost, and no letter",
         );
     }
-    let c = put_text(out, c, b"the last letter, ");
-    let c = put_letter(out, c, b);
-    put_text(out, c, b", is lost")
+    let c = put_text(rt, out, c, b"the last letter, ");
+    let c = put_letter(rt, out, c, b);
+    put_text(rt, out, c, b", is lost")
 }
 
 // ---- a warning
 
-fn print_lost(text: &[u8], token: Token) {
+fn print_lost(rt: HostRuntime, text: &[u8], token: Token) {
     let mut out = [0u8; 4096];
-    let c = put_lost(&mut out, columns::start(), text, token);
-    columns::finish(&out, c);
+    let c = put_lost(rt, &mut out, columns::start(), text, token);
+    columns::finish(rt, &out, c);
 }
 
-fn print_warning(name: &[u8], text: &[u8], token: Token, line: usize) {
+fn print_warning(rt: HostRuntime, name: &[u8], text: &[u8], token: Token, line: usize) {
     let at = lost_at(token);
-    print_name(STDOUT_FILENO, name);
-    print_place(STDOUT_FILENO, line, places::column_at(text, at));
-    print_text(b": warning: no closing quote: ");
-    print_lost(text, token);
-    print_text(b"\n");
-    views::print_view(STDOUT_FILENO, text, at);
+    print_name(rt, Stream::Output, name);
+    print_place(rt, Stream::Output, line, places::column_at(text, at));
+    print_text(rt, b": warning: no closing quote: ");
+    print_lost(rt, text, token);
+    print_text(rt, b"\n");
+    views::print_view(rt, Stream::Output, text, at);
 }
 
 // ---- all of them
@@ -95,18 +101,19 @@ struct Place {
 }
 
 // Warns of the string of a token; only what lies between it and the warning before is gone through.
-fn warn_behind(name: &[u8], text: &[u8], token: Token, p: Place) -> Place
+fn warn_behind(rt: HostRuntime, name: &[u8], text: &[u8], token: Token, p: Place) -> Place
     requires { p.line ≡ line_at text.now p.byte }
     ensures { result.line ≡ line_at text.now result.byte }
 {
     let byte = lost_at(token);
     let line = lookups::line_from(text, p.byte, p.line, byte);
-    print_warning(name, text, token, line);
+    print_warning(rt, name, text, token, line);
     Place { byte, line }
 }
 
 // Warns of each unclosed string among so many operands, in their order, and answers how many there are.
 pub fn print_warnings(
+    rt: HostRuntime,
     name: &[u8],
     text: &[u8],
     tokens: &[u64],
@@ -119,7 +126,7 @@ pub fn print_warnings(
     let mut i = next_unclosed(operands, 0);
     while i < operands.len() {
         let operand = entries::operand_in(operands, i);
-        p = warn_behind(name, text, entries::token_in(tokens, operand.token), p);
+        p = warn_behind(rt, name, text, entries::token_in(tokens, operand.token), p);
         n += 1;
         i = next_unclosed(operands, i + 1);
     }

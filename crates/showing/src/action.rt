@@ -14,15 +14,16 @@ const NAME: usize = 35;
 // ---- an action
 
 // Of an action that stands in a reading, only an undetermined delta is refused.
-fn put_delta(out: &mut [u8; 4096], c: Cursor, d: StackDelta) -> Cursor {
-    let c = put_text(out, c, b"delta ");
+fn put_delta(rt: HostRuntime, out: &mut [u8; 4096], c: Cursor, d: StackDelta) -> Cursor {
+    let c = put_text(rt, out, c, b"delta ");
     match d {
-        StackDelta::Is(n) => put_signed(out, c, columns::widened(n)),
-        StackDelta::Refused(_) => put_byte(out, c, b'?'),
+        StackDelta::Is(n) => put_signed(rt, out, c, columns::widened(n)),
+        StackDelta::Refused(_) => put_byte(rt, out, c, b'?'),
     }
 }
 
 fn put_action(
+    rt: HostRuntime,
     out: &mut [u8; 4096],
     c: Cursor,
     i: usize,
@@ -31,22 +32,23 @@ fn put_action(
     d: StackDelta,
 ) -> Cursor {
     let name = a.name;
-    let c = put_head(out, c, b"action  ", i);
-    let c = put_text(out, c, b"level ");
-    let c = put_number(out, c, a.level as u64);
-    let c = put_column(out, c, LINE);
-    let c = put_text(out, c, b"line ");
-    let c = put_number(out, c, line as u64);
-    let c = put_column(out, c, NAME);
-    let c = put_name(out, c, name);
-    let c = put_column(out, c, FACTS);
-    let c = put_delta(out, c, d);
-    put_byte(out, c, b'\n')
+    let c = put_head(rt, out, c, b"action  ", i);
+    let c = put_text(rt, out, c, b"level ");
+    let c = put_number(rt, out, c, a.level as u64);
+    let c = put_column(rt, out, c, LINE);
+    let c = put_text(rt, out, c, b"line ");
+    let c = put_number(rt, out, c, line as u64);
+    let c = put_column(rt, out, c, NAME);
+    let c = put_name(rt, out, c, name);
+    let c = put_column(rt, out, c, FACTS);
+    let c = put_delta(rt, out, c, d);
+    put_byte(rt, out, c, b'\n')
 }
 
 // ---- its operands
 
 fn put_operands(
+    rt: HostRuntime,
     out: &mut [u8; 4096],
     c: Cursor,
     text: &[u8],
@@ -61,7 +63,7 @@ fn put_operands(
     while i < own.len() {
         let operand = entries::operand_of(own[i]);
         i += 1;
-        c = put_operand(out, c, text, tokens, labels, a, i, operand);
+        c = put_operand(rt, out, c, text, tokens, labels, a, i, operand);
     }
     c
 }
@@ -69,6 +71,7 @@ fn put_operands(
 // ---- all of them
 
 fn put_step(
+    rt: HostRuntime,
     out: &mut [u8; 4096],
     c: Cursor,
     text: &[u8],
@@ -81,11 +84,12 @@ fn put_step(
 ) -> Cursor {
     let a = entries::action_in(actions, i);
     let d = lookups::delta_at(text, tokens, actions, operands, i);
-    let c = put_action(out, c, i, a, line, d);
-    put_operands(out, c, text, tokens, operands, labels, a)
+    let c = put_action(rt, out, c, i, a, line, d);
+    put_operands(rt, out, c, text, tokens, operands, labels, a)
 }
 
 pub fn put_actions(
+    rt: HostRuntime,
     out: &mut [u8; 4096],
     c: Cursor,
     text: &[u8],
@@ -104,7 +108,9 @@ pub fn put_actions(
     let mut i = 0;
     while i < n {
         p = next_place(text, tokens, p);
-        c = put_step(out, c, text, tokens, actions, operands, labels, i, p.line);
+        c = put_step(
+            rt, out, c, text, tokens, actions, operands, labels, i, p.line,
+        );
         i += 1;
     }
     c

@@ -9,63 +9,90 @@ const NET: usize = 66;
 
 const UNCLOSED: usize = 80;
 
-fn put_block(out: &mut [u8; 4096], c: Cursor, actions: &[u64], what: &[u8], a: usize) -> Cursor {
-    let c = put_text(out, c, what);
-    let c = put_text(out, c, b" of action ");
-    put_action_of(out, c, actions, a)
+fn put_block(
+    rt: HostRuntime,
+    out: &mut [u8; 4096],
+    c: Cursor,
+    actions: &[u64],
+    what: &[u8],
+    a: usize,
+) -> Cursor {
+    let c = put_text(rt, out, c, what);
+    let c = put_text(rt, out, c, b" of action ");
+    put_action_of(rt, out, c, actions, a)
 }
 
-fn put_owner(out: &mut [u8; 4096], c: Cursor, actions: &[u64], block: Block) -> Cursor {
+fn put_owner(
+    rt: HostRuntime,
+    out: &mut [u8; 4096],
+    c: Cursor,
+    actions: &[u64],
+    block: Block,
+) -> Cursor {
     match block {
-        Block::Top => put_text(out, c, b"the top level"),
-        Block::Body(a) => put_block(out, c, actions, b"body", a),
-        Block::Try(a) => put_block(out, c, actions, b"try", a),
-        Block::Catch(a) => put_block(out, c, actions, b"catch", a),
-        Block::Finally(a) => put_block(out, c, actions, b"finally", a),
+        Block::Top => put_text(rt, out, c, b"the top level"),
+        Block::Body(a) => put_block(rt, out, c, actions, b"body", a),
+        Block::Try(a) => put_block(rt, out, c, actions, b"try", a),
+        Block::Catch(a) => put_block(rt, out, c, actions, b"catch", a),
+        Block::Finally(a) => put_block(rt, out, c, actions, b"finally", a),
     }
 }
 
-fn put_net(out: &mut [u8; 4096], c: Cursor, actions: &[u64], net: Net) -> Cursor {
-    let c = put_text(out, c, b"net ");
+fn put_net(rt: HostRuntime, out: &mut [u8; 4096], c: Cursor, actions: &[u64], net: Net) -> Cursor {
+    let c = put_text(rt, out, c, b"net ");
     match net {
-        Net::Height(h) => put_signed(out, c, h),
+        Net::Height(h) => put_signed(rt, out, c, h),
         Net::Undetermined(a) => {
-            let c = put_text(out, c, b"?  by action ");
-            put_action_of(out, c, actions, a)
+            let c = put_text(rt, out, c, b"?  by action ");
+            put_action_of(rt, out, c, actions, a)
         }
     }
 }
 
-fn put_unclosed(out: &mut [u8; 4096], c: Cursor, n: usize) -> Cursor {
+fn put_unclosed(rt: HostRuntime, out: &mut [u8; 4096], c: Cursor, n: usize) -> Cursor {
     if n == 0 {
         return c;
     }
-    let c = put_column(out, c, UNCLOSED);
-    let c = put_count(out, c, n, b"string");
-    put_text(out, c, b" not closed")
+    let c = put_column(rt, out, c, UNCLOSED);
+    let c = put_count(rt, out, c, n, b"string");
+    put_text(rt, out, c, b" not closed")
 }
 
-fn put_level(out: &mut [u8; 4096], c: Cursor, actions: &[u64], i: usize, l: Level) -> Cursor {
+fn put_level(
+    rt: HostRuntime,
+    out: &mut [u8; 4096],
+    c: Cursor,
+    actions: &[u64],
+    i: usize,
+    l: Level,
+) -> Cursor {
     let block = l.block;
     let net = l.net;
-    let c = put_head(out, c, b"level   ", i);
-    let c = put_owner(out, c, actions, block);
-    let c = put_column(out, c, FACTS);
-    let c = put_count(out, c, l.actions, b"action");
-    let c = put_column(out, c, NET);
-    let c = put_net(out, c, actions, net);
-    let c = put_unclosed(out, c, l.unclosed);
-    put_byte(out, c, b'\n')
+    let c = put_head(rt, out, c, b"level   ", i);
+    let c = put_owner(rt, out, c, actions, block);
+    let c = put_column(rt, out, c, FACTS);
+    let c = put_count(rt, out, c, l.actions, b"action");
+    let c = put_column(rt, out, c, NET);
+    let c = put_net(rt, out, c, actions, net);
+    let c = put_unclosed(rt, out, c, l.unclosed);
+    put_byte(rt, out, c, b'\n')
 }
 
-fn put_label(out: &mut [u8; 4096], c: Cursor, text: &[u8], tokens: &[u64], l: Label) -> Cursor {
+fn put_label(
+    rt: HostRuntime,
+    out: &mut [u8; 4096],
+    c: Cursor,
+    text: &[u8],
+    tokens: &[u64],
+    l: Label,
+) -> Cursor {
     let token = entries::token_in(tokens, l.token);
-    let c = put_head(out, c, b"label   ", l.level);
-    let c = put_typed(out, c, text, token);
-    let c = put_column(out, c, FACTS);
-    let c = put_text(out, c, b"position ");
-    let c = put_number(out, c, l.position as u64);
-    put_byte(out, c, b'\n')
+    let c = put_head(rt, out, c, b"label   ", l.level);
+    let c = put_typed(rt, out, c, text, token);
+    let c = put_column(rt, out, c, FACTS);
+    let c = put_text(rt, out, c, b"position ");
+    let c = put_number(rt, out, c, l.position as u64);
+    put_byte(rt, out, c, b'\n')
 }
 
 // Where the labels of a level end that start at `from`: the table has them by level.
@@ -82,6 +109,7 @@ fn labels_end(labels: &[u64], level: usize, from: usize) -> usize {
 }
 
 fn put_labels(
+    rt: HostRuntime,
     out: &mut [u8; 4096],
     c: Cursor,
     text: &[u8],
@@ -93,13 +121,14 @@ fn put_labels(
     let mut c = c;
     let mut i = from;
     while i < to {
-        c = put_label(out, c, text, tokens, entries::label_in(labels, i));
+        c = put_label(rt, out, c, text, tokens, entries::label_in(labels, i));
         i += 1;
     }
     c
 }
 
 pub fn put_levels(
+    rt: HostRuntime,
     out: &mut [u8; 4096],
     c: Cursor,
     text: &[u8],
@@ -113,9 +142,9 @@ pub fn put_levels(
     let mut from = 0;
     let mut i = 0;
     while i < n {
-        c = put_level(out, c, actions, i, entries::level_in(levels, i));
+        c = put_level(rt, out, c, actions, i, entries::level_in(levels, i));
         let to = labels_end(labels, i, from);
-        c = put_labels(out, c, text, tokens, labels, from, to);
+        c = put_labels(rt, out, c, text, tokens, labels, from, to);
         from = to;
         i += 1;
     }

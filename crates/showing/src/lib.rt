@@ -1,5 +1,6 @@
 // What a text was read as: each level with its labels, then each action with its operands.
 #![tactic(auto)]
+
 mod action;
 mod layout;
 mod level;
@@ -11,6 +12,7 @@ use as2_pcode::Counts;
 
 // For a reading that was accepted, and the tables that it filled.
 pub fn print_shown(
+    rt: HostRuntime,
     text: &[u8],
     tokens: &[u64],
     actions: &[u64],
@@ -24,10 +26,10 @@ pub fn print_shown(
     let mut out = [0u8; 4096];
     let at = columns::start();
     let at = level::put_levels(
-        &mut out, at, text, tokens, actions, levels, labels, c.levels,
+        rt, &mut out, at, text, tokens, actions, levels, labels, c.levels,
     );
     let at = action::put_actions(
-        &mut out, at, text, tokens, actions, operands, labels, c.actions,
+        rt, &mut out, at, text, tokens, actions, operands, labels, c.actions,
     );
-    columns::finish(&out, at);
+    columns::finish(rt, &out, at);
 }

@@ -12,59 +12,71 @@ use tokens::{Token, raw_text};
 use values::{PushValue, TokenValue};
 
 // Its bytes in hexadecimal, so that what cannot be seen is seen.
-fn put_string(out: &mut [u8; 4096], c: Cursor, bytes: &[u8]) -> Cursor {
-    let c = put_text(out, c, b"string of ");
-    let c = put_count(out, c, bytes.len(), b"byte");
+fn put_string(rt: HostRuntime, out: &mut [u8; 4096], c: Cursor, bytes: &[u8]) -> Cursor {
+    let c = put_text(rt, out, c, b"string of ");
+    let c = put_count(rt, out, c, bytes.len(), b"byte");
     if bytes.len() == 0 {
         return c;
     }
-    let c = put_byte(out, c, b':');
-    put_bytes(out, c, bytes)
+    let c = put_byte(rt, out, c, b':');
+    put_bytes(rt, out, c, bytes)
 }
 
-fn put_named(out: &mut [u8; 4096], c: Cursor, what: &[u8], n: u64) -> Cursor {
-    let c = put_text(out, c, what);
-    put_number(out, c, n)
+fn put_named(rt: HostRuntime, out: &mut [u8; 4096], c: Cursor, what: &[u8], n: u64) -> Cursor {
+    let c = put_text(rt, out, c, what);
+    put_number(rt, out, c, n)
 }
 
-fn put_whole(out: &mut [u8; 4096], c: Cursor, n: i32) -> Cursor {
-    let c = put_text(out, c, b"integer ");
-    put_integer(out, c, columns::widened(n))
+fn put_whole(rt: HostRuntime, out: &mut [u8; 4096], c: Cursor, n: i32) -> Cursor {
+    let c = put_text(rt, out, c, b"integer ");
+    put_integer(rt, out, c, columns::widened(n))
 }
 
-fn put_double(out: &mut [u8; 4096], c: Cursor, x: f64) -> Cursor {
-    let c = put_text(out, c, b"double ");
-    put_bits(out, c, values::bits_of(x))
+fn put_double(rt: HostRuntime, out: &mut [u8; 4096], c: Cursor, x: f64) -> Cursor {
+    let c = put_text(rt, out, c, b"double ");
+    put_bits(rt, out, c, values::bits_of(x))
 }
 
-fn put_push_value(out: &mut [u8; 4096], c: Cursor, raw: &[u8], v: PushValue) -> Cursor {
+fn put_push_value(
+    rt: HostRuntime,
+    out: &mut [u8; 4096],
+    c: Cursor,
+    raw: &[u8],
+    v: PushValue,
+) -> Cursor {
     match v {
-        PushValue::Null => put_text(out, c, b"null"),
-        PushValue::Undefined => put_text(out, c, b"undefined"),
-        PushValue::String(_) => put_string(out, c, raw),
-        PushValue::Integer(n) => put_whole(out, c, n),
-        PushValue::Float(x) => put_double(out, c, x),
-        PushValue::True => put_text(out, c, b"true"),
-        PushValue::False => put_text(out, c, b"false"),
-        PushValue::Register(n) => put_named(out, c, b"register ", n as u64),
-        PushValue::Constant(n) => put_named(out, c, b"constant ", n as u64),
-        PushValue::Long(_) => put_text(out, c, b"Long, kept as typed"),
+        PushValue::Null => put_text(rt, out, c, b"null"),
+        PushValue::Undefined => put_text(rt, out, c, b"undefined"),
+        PushValue::String(_) => put_string(rt, out, c, raw),
+        PushValue::Integer(n) => put_whole(rt, out, c, n),
+        PushValue::Float(x) => put_double(rt, out, c, x),
+        PushValue::True => put_text(rt, out, c, b"true"),
+        PushValue::False => put_text(rt, out, c, b"false"),
+        PushValue::Register(n) => put_named(rt, out, c, b"register ", n as u64),
+        PushValue::Constant(n) => put_named(rt, out, c, b"constant ", n as u64),
+        PushValue::Long(_) => put_text(rt, out, c, b"Long, kept as typed"),
     }
 }
 
 // In a reading every operand that is no label has a value.
-fn put_value(out: &mut [u8; 4096], c: Cursor, text: &[u8], token: Token) -> Cursor {
+fn put_value(
+    rt: HostRuntime,
+    out: &mut [u8; 4096],
+    c: Cursor,
+    text: &[u8],
+    token: Token,
+) -> Cursor {
     let v = values::value(text, token);
     match v {
-        TokenValue::Is(p) => put_push_value(out, c, raw_text(text, token), p),
-        TokenValue::Refused(_) => put_text(out, c, b"no value"),
+        TokenValue::Is(p) => put_push_value(rt, out, c, raw_text(text, token), p),
+        TokenValue::Refused(_) => put_text(rt, out, c, b"no value"),
     }
 }
 
-fn put_target(out: &mut [u8; 4096], c: Cursor, t: Target) -> Cursor {
+fn put_target(rt: HostRuntime, out: &mut [u8; 4096], c: Cursor, t: Target) -> Cursor {
     match t {
-        Target::At(position) => put_named(out, c, b"label at position ", position as u64),
-        Target::Nothing => put_text(out, c, b"label not in this level"),
+        Target::At(position) => put_named(rt, out, c, b"label at position ", position as u64),
+        Target::Nothing => put_text(rt, out, c, b"label not in this level"),
     }
 }
 
@@ -78,6 +90,7 @@ fn takes_label(a: ActionName) -> bool {
 }
 
 fn put_meaning(
+    rt: HostRuntime,
     out: &mut [u8; 4096],
     c: Cursor,
     text: &[u8],
@@ -88,23 +101,31 @@ fn put_meaning(
 ) -> Cursor {
     let name = a.name;
     if !takes_label(name) {
-        return put_value(out, c, text, token);
+        return put_value(rt, out, c, text, token);
     }
     let t = lookups::target_of(text, tokens, labels, a.level, raw_text(text, token));
-    put_target(out, c, t)
+    put_target(rt, out, c, t)
 }
 
 // What a string without its closing quote lost.
-fn put_mark(out: &mut [u8; 4096], c: Cursor, text: &[u8], token: Token, unclosed: bool) -> Cursor {
+fn put_mark(
+    rt: HostRuntime,
+    out: &mut [u8; 4096],
+    c: Cursor,
+    text: &[u8],
+    token: Token,
+    unclosed: bool,
+) -> Cursor {
     if !unclosed {
         return c;
     }
-    let c = put_text(out, c, b", not closed: ");
-    reporting::put_lost(out, c, text, token)
+    let c = put_text(rt, out, c, b", not closed: ");
+    reporting::put_lost(rt, out, c, text, token)
 }
 
 // The number of an operand is that within its action, from 1.
 pub fn put_operand(
+    rt: HostRuntime,
     out: &mut [u8; 4096],
     c: Cursor,
     text: &[u8],
@@ -115,10 +136,10 @@ pub fn put_operand(
     operand: Operand,
 ) -> Cursor {
     let token = entries::token_in(tokens, operand.token);
-    let c = put_head(out, c, b"operand ", number);
-    let c = put_typed(out, c, text, token);
-    let c = put_column(out, c, FACTS);
-    let c = put_meaning(out, c, text, tokens, labels, a, token);
-    let c = put_mark(out, c, text, token, operand.unclosed);
-    put_byte(out, c, b'\n')
+    let c = put_head(rt, out, c, b"operand ", number);
+    let c = put_typed(rt, out, c, text, token);
+    let c = put_column(rt, out, c, FACTS);
+    let c = put_meaning(rt, out, c, text, tokens, labels, a, token);
+    let c = put_mark(rt, out, c, text, token, operand.unclosed);
+    put_byte(rt, out, c, b'\n')
 }
