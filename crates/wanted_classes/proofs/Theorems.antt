@@ -25,11 +25,15 @@ pick : (ws : List Wanted) (cs : List Class) → Each ws cs → (n : ℕ) → n <
 pick [] [] e n h = absurd (omega (arith, h))
 pick (w ∷ ws) (c ∷ cs) e zero h = e.0
 pick (w ∷ ws) (c ∷ cs) e (suc n) h = pick ws cs e.1 n (omega (arith, h))
+pick [] (c ∷ cs) e n h = elim e [ ]
+pick (w ∷ ws) [] e n h = elim e [ ]
 
 none : (ws : List Wanted) (cs : List Class) → Each ws cs → (n : ℕ) → length cs ≤ n → nth ws n ≡ W.Nothing
 none [] [] e n h = refl
 none (w ∷ ws) (c ∷ cs) e zero h = absurd (omega (arith, h))
 none (w ∷ ws) (c ∷ cs) e (suc n) h = none ws cs e.1 n (omega (arith, h))
+none [] (c ∷ cs) e n h = elim e [ ]
+none (w ∷ ws) [] e n h = elim e [ ]
 
 parameters : (k : ℕ) → Each (replicate k W.Parameter) (replicate k string)
 parameters zero = tt
@@ -93,3 +97,7 @@ no_more (define_function2 k) f n h =
     (none (W.String ∷ W.Count ∷ W.U8 ∷ (replicate 9 W.Flag ++ pairs k)) (string ∷ count k ∷ u8 ∷ (replicate 9 bool ++ pairsOf k)) (a_string, (a_count, (a_u8, flags k))) n h)
 no_more with_block f n h = refl
 no_more others f n h = refl
+no_more (push k) f n h = elim f [ ]
+no_more (constant_pool k) f n h = elim f [ ]
+no_more try_plain f n h = elim f [ ]
+no_more try_target f n h = elim f [ ]
