@@ -1,5 +1,6 @@
 // What C is told of tokens, deltas, values, names and places: the numbers of an answer in `out` arrays, and 0 or a refusal's number.
 #![tactic(auto)]
+
 ghost use Rattle.std.specs.Prelude.{◌≡◌, length};
 ghost use Rattle.words.specs.Spellings.{all_letters};
 ghost use Rattle.lexer.specs.Lexing as Lexes;
@@ -156,7 +157,8 @@ fn put_word(word: &[u8], name: &mut [u8]) -> usize
     if name.len() < word.len() {
         return word.len();
     }
-    bytes::copy(word, name)
+    name[..word.len()].copy_from_slice(word);
+    word.len()
 }
 
 pub fn tell_name(action: usize, name: &mut [u8]) -> usize
