@@ -1,6 +1,7 @@
 // Actions, operands and levels of a log, written straight into the lent tables: an action with its operands when it comes, a level
 // when it opens, and with each of its actions once more.
 #![tactic(auto)]
+
 ghost use Rattle.std.specs.Prelude.{◌≡◌, ◌+◌, ◌≤◌, ◌<◌, map, length, drop, get_or, set};
 ghost use Rattle.std.proofs.lemmas.List.Edits.{sets};
 ghost use Rattle.entries.specs.Levels.{Small};
