@@ -1,6 +1,7 @@
 // Labels of one name and level brought together: written again, a label keeps its first place and takes the new position.
 // Where it is, chains of labels by a hash of level and name tell, in lent memory (specs/Index.antt).
 #![tactic(auto)]
+
 ghost use Rattle.std.specs.Prelude.{◌≡◌, ◌-◌, ◌≤◌, ◌<◌, [], length, take};
 ghost use Rattle.labels.specs.Labels.{first_same, moved, Placed, Merged};
 ghost use Rattle.labels.specs.Index.{hash_of, bucket_in, linked, Chains, ChainsOf, Distinct, Indexed, Finds};
