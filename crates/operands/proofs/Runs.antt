@@ -4,11 +4,9 @@ use mathlib.Core.Bool.{Bool, true, false}
 use mathlib.Core.List.{List, [], ◌∷◌, ◌++◌, append_assoc}
 use Prim.Native.Nat.{ℕ, suc, ◌+◌, ◌-◌, ◌≤◌, ◌<◌}
 use native.Mathlib.Omega.{arith}
-use denote.Enum.Declared.{tag_of}
 use lib.Dec.{ltb}
 use lib.ListN.{length, get_or, set}
 use borrow.Author.Tests.{ltb-true, ltb-false, ne_eqb}
-use types.Run.{OneOf, miss}
 use Rattle.tokens.specs.declared.TokenKind.{TokenKind}
 use Rattle.tokens.specs.Kinds.{code_of}
 use Rattle.tokens.specs.Tokens.{token_of, raw_text}
@@ -17,7 +15,6 @@ use Rattle.lexemes.specs.Operands.{is_operand}
 use Rattle.lexemes.specs.Events.{given}
 use Rattle.machine.specs.Machine.{Nesting, Punctuation, p_comma, p_colon, kind-of, Symbol, mark, operand, silent, out, stop, go, move}
 use Rattle.machine.specs.Depth.{fault}
-use Rattle.operands.specs.contracts.Step.{the_type}
 use Rattle.operands.specs.declared.At.{At}
 use Rattle.operands.specs.declared.Step.{Step}
 use Rattle.operands.specs.declared.Step.TheVariants.{To, Bad, Deep}
@@ -31,7 +28,7 @@ use Rattle.operands.proofs.Places.{at-step, at-stop, at-end}
 
 -- a refusal
 abbrev pub Refuses : Step → Type 0
-Refuses r = OneOf (1 ∷ 2 ∷ []) (tag_of the_type r)
+Refuses r = (d : At) → r ≡ To d → ⊥
 
 -- ---- places
 
@@ -84,7 +81,7 @@ pass_fine text s c d r v u = fine-to text s [] [] c d r (v.with_log []) u
 -- a refusal does not depend on what was to come
 pub refusal : (text s : List ℕ) (σ τ : List Symbol) (d : ℕ) (a b : List ℕ) (r : Step) → Refuses r → outcome text s σ d a r ≡ outcome text s τ d b r
 unfolding outcome
-refusal text s σ τ d a b (To c) o = absurd (miss (1 ∷ 2 ∷ []) 0 tt o)
+refusal text s σ τ d a b (To c) o = absurd (o c refl)
 refusal text s σ τ d a b (Bad k) o = refl
 refusal text s σ τ d a b (Deep k) o = refl
 

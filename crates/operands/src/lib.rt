@@ -1,6 +1,7 @@
 // The readers of an action's operands, by the names of the Rust's parser/actions.rs: functions over a token index by value. What
 // they read they write into a log of events, from which the tables are made.
 #![tactic(auto)]
+
 ghost use Rattle.std.specs.Prelude.{◌≡◌, true, ◌≤◌, set};
 ghost use Rattle.classes.specs.Lexemes.{fits_at};
 ghost use Rattle.events.specs.Log.{Holdable, log_word};
