@@ -1,5 +1,6 @@
 // Labels in a lent slice of label entries: look-up by number and by name, and the entries made of a table's words.
 #![tactic(auto)]
+
 ghost use Rattle.std.specs.Prelude.{◌≡◌, ◌++◌, map, ◌≤◌, length, take, drop, get_or};
 ghost use Rattle.entries.specs.Entries.{label_of};
 ghost use Rattle.label_entries.specs.Labels.{no_label, is_named, found_from, found_at};
