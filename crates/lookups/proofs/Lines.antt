@@ -1,13 +1,12 @@
 -- The line ends of a text are those up to a byte and those from it on. Assumes nothing.
-use mathlib.Core.Path.{◌≡◌, refl, sym, ap, ◌∙◌}
-use mathlib.Core.Bool.{Bool, true, false, cond, not, ◌&&◌, ◌||◌}
+use mathlib.Core.Path.{◌≡◌, sym, ap, ◌∙◌}
+use mathlib.Core.Bool.{Bool, true, false, cond}
 use mathlib.Core.List.{List}
 use Prim.Native.Nat.{ℕ, zero, suc, ◌+◌, ◌-◌, ◌≤◌}
 use native.Mathlib.Omega.{arith}
-use lib.Dec.{eqb}
-use lib.ListN.{length, drop, get_or, length-drop}
+use lib.ListN.{length, drop, length-drop}
 use lib.Seq.{get_or-drop}
-use Rattle.places.specs.Places.{ends_at, line_ends, place_in, line_at}
+use Rattle.places.specs.Places.{ends_at, line_ends, line_at}
 use Rattle.places.proofs.Lines.{inside}
 
 ends-from : (s : List ℕ) (a i : ℕ) → ends_at (drop a s) i ≡ ends_at s (a + i)

@@ -9,7 +9,6 @@ use lib.Seq.{drop-cons}
 use Rattle.entries.specs.declared.Label.{Label}
 use Rattle.entries.specs.Entries.{label_of}
 use Rattle.label_names.specs.Names.{is_named}
-use Rattle.lookups.specs.declared.Target.{Target}
 use Rattle.lookups.specs.declared.Target.TheVariants.{At, Nothing}
 use Rattle.lookups.specs.Targets.{target_in}
 

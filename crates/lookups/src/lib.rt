@@ -1,5 +1,6 @@
 // What is looked up in the tables of a reading to show it.
 #![tactic(auto)]
+
 ghost use Rattle.std.specs.Prelude.{◌≡◌, length, take, drop};
 ghost use Rattle.places.specs.Places.{line_at};
 ghost use Rattle.tokens.specs.Tokens.{within, part as bytes_in};
