@@ -2,17 +2,17 @@
 use mathlib.Core.Path.{◌≡◌, refl, ap, sym, ◌∙◌}
 use mathlib.Core.Bool.{Bool, true, false, cond}
 use mathlib.Core.List.{List, [], ◌∷◌, ◌++◌, append_assoc}
-use Prim.Native.Nat.{ℕ, zero, suc, ◌+◌, ◌<◌}
+use Prim.Native.Nat.{ℕ, suc, ◌+◌, ◌<◌}
 use native.Mathlib.Omega.{arith}
 use lib.Dec.{leb}
 use lib.ListN.{length, length-append}
-use Rattle.movies.specs.Movie.{Level, done, action, Blocks, no_blocks, block, Act, Movie}
+use Rattle.movies.specs.Movie.{done, action, Blocks, no_blocks, block, Act, Movie}
 use Rattle.movies.specs.Sites.{Site, sites_from, sites_in}
 use Rattle.action_records.specs.Codes.{listed}
 use Rattle.action_records.specs.Fields.{Layout, Field, UI8, UI16, UI32, STRING, bits, branch, uncodable, bytes_of, all_bytes, low_first}
 use Rattle.action_records.specs.Fields as F
 use Rattle.action_records.specs.declared.Style.{Style}
-use Rattle.action_records.specs.Bytes.{size, size_in, start, layout, record_of, bytes_at, bytes_of_all, with_length, fields_of, blank}
+use Rattle.action_records.specs.Bytes.{size, size_in, layout, record_of, bytes_at, bytes_of_all, with_length, fields_of, blank}
 
 len_field : (l : Layout) (f : Field) → length (bytes_of l f) ≡ length (bytes_of blank f)
 len_field l (UI8 n) = refl

@@ -1,8 +1,6 @@
 -- The table of codes: an action whose record has fields has a code of 0x80 or more. Assumes nothing.
 use mathlib.Core.Path.{◌≡◌, refl, sym, ap, ◌∙◌, subst}
 use mathlib.Core.Bool.{Bool, true, false, cond}
-use mathlib.Core.List.{List, [], ◌∷◌}
-use Prim.Native.Nat.{ℕ}
 use lib.Dec.{leb}
 use Rattle.laws.proofs.Tabulate.{agree, tabulate}
 use Rattle.names.specs.declared.ActionName.{ActionName}

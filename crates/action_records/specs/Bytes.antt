@@ -3,7 +3,7 @@ use Rattle.std.specs.Prelude.{cond, List, [], ◌∷◌, ◌++◌, ℕ, zero, su
 use Rattle.std.proofs.Math.IntN.{sub_ℕ}
 use Rattle.shapes.specs.Shapes.{shape_of}
 use Rattle.lexemes.specs.Events.{Part}
-use Rattle.movies.specs.Movie.{Level, done, action, Blocks, no_blocks, block, Act, Movie, is_part, has}
+use Rattle.movies.specs.Movie.{done, action, Blocks, no_blocks, block, Act, Movie, is_part, has}
 use Rattle.movies.specs.Sites.{Site, sites}
 use Rattle.action_records.specs.Codes.{listed}
 use Rattle.action_records.specs.Fields.{Field, Layout, low_first, all_bytes}
