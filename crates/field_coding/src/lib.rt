@@ -1,5 +1,6 @@
 // The fields of action records: numbers of one, two and four bytes, bits and strings.
 #![tactic(auto)]
+
 mod field;
 mod string;
 
