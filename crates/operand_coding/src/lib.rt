@@ -1,5 +1,6 @@
 // What a token means, as a number, as a string's field, and as what Push pushes.
 #![tactic(auto)]
+
 ghost use Rattle.std.specs.Prelude.{◌≡◌, [], ◌∷◌, true, ◌≤◌, ◌<◌, length};
 ghost use Rattle.std.proofs.Math.Option.{some};
 ghost use Rattle.tokens.specs.declared.TokenKind.TheVariants as K;
