@@ -1,5 +1,6 @@
 // Runs the leaves at their limits, a line for each case.
 #![tactic(auto)]
+
 ghost use Rattle.std.specs.Prelude.{◌≤◌};
 
 use answers::Refusal;
@@ -28,10 +29,8 @@ fn comes_back(n: u64, of_kinds: bool) -> u64
 
 fn count_back(limit: u64, of_kinds: bool) -> u64 {
     let mut good: u64 = 0;
-    let mut n: u64 = 0;
-    while n < limit {
+    for n in 0..limit {
         good += comes_back(n, of_kinds);
-        n += 1;
     }
     good
 }
@@ -120,17 +119,17 @@ fn word_at(i: usize) -> u64 {
     tokens::word_of(kind, start, end)
 }
 
-fn print_token(i: usize) {
+fn print_token(rt: HostRuntime, i: usize) {
     let t = tokens::token_of(word_at(i));
     let kind = t.kind;
     let span = t.span;
     let raw = t.raw;
-    print_text(b"token ");
-    print_number(tokens::kind_number(kind));
-    print_text(b" ");
-    print_span(span);
-    print_text(b" ");
-    print_span(raw);
+    print_text(rt, b"token ");
+    print_number(rt, tokens::kind_number(kind));
+    print_text(rt, b" ");
+    print_span(rt, span);
+    print_text(rt, b" ");
+    print_span(rt, raw);
 }
 
 // ---- raw text
@@ -162,7 +161,7 @@ const BOUNDS: [Span; 13] = [
     },
 ];
 
-fn print_raw(i: usize) {
+fn print_raw(rt: HostRuntime, i: usize) {
     if 13 <= i {
         return;
     }
@@ -172,11 +171,11 @@ fn print_raw(i: usize) {
         span: bounds,
         raw: bounds,
     };
-    print_text(b"raw ");
-    print_span(bounds);
-    print_text(b" [");
-    print_text(tokens::raw_text(b"start: Add", token));
-    print_text(b"]");
+    print_text(rt, b"raw ");
+    print_span(rt, bounds);
+    print_text(rt, b" [");
+    print_text(rt, tokens::raw_text(b"start: Add", token));
+    print_text(rt, b"]");
 }
 
 // ---- deltas
@@ -261,7 +260,7 @@ const GIVEN: [Given; 14] = [
     },
 ];
 
-fn print_delta(i: usize) {
+fn print_delta(rt: HostRuntime, i: usize) {
     if 14 <= i {
         return;
     }
@@ -269,14 +268,14 @@ fn print_delta(i: usize) {
     let action = g.action;
     let values = g.values;
     let name_is_empty = g.name_is_empty;
-    print_text(b"delta of action ");
-    print_number(actions::action_number(action) as u64);
-    print_text(b" with ");
-    print_number(values as u64);
-    print_text(b": ");
+    print_text(rt, b"delta of action ");
+    print_number(rt, actions::action_number(action) as u64);
+    print_text(rt, b" with ");
+    print_number(rt, values as u64);
+    print_text(rt, b": ");
     match pcode::delta(action, values, name_is_empty) {
-        StackDelta::Is(d) => print_signed(d),
-        StackDelta::Refused(r) => print_refusal(r),
+        StackDelta::Is(d) => print_signed(rt, d),
+        StackDelta::Refused(r) => print_refusal(rt, r),
     }
 }
 
@@ -311,50 +310,48 @@ const REFUSALS: [Refusal; 26] = [
     Refusal::BadText(125),
 ];
 
-fn print_row(i: usize) {
+fn print_row(rt: HostRuntime, i: usize) {
     if 26 <= i {
         return;
     }
     let r = REFUSALS[i];
-    print_refusal(r);
+    print_refusal(rt, r);
 }
 
 // ---- all cases
 
-fn print_case(i: usize) {
+fn print_case(rt: HostRuntime, i: usize) {
     if i < 12 {
-        print_token(i);
+        print_token(rt, i);
         return;
     }
     if i < 25 {
-        print_raw(i - 12);
+        print_raw(rt, i - 12);
         return;
     }
     if i < 39 {
-        print_delta(i - 25);
+        print_delta(rt, i - 25);
         return;
     }
-    print_row(i - 39);
+    print_row(rt, i - 39);
 }
 
-fn print_line(i: usize) {
-    print_case(i);
-    print_text(b"\n");
+fn print_line(rt: HostRuntime, i: usize) {
+    print_case(rt, i);
+    print_text(rt, b"\n");
 }
 
-fn print_lines() {
-    let mut i = 0;
-    while i < 65 {
-        print_line(i);
-        i += 1;
+fn print_lines(rt: HostRuntime) {
+    for i in 0..65 {
+        print_line(rt, i);
     }
 }
 
-fn main() {
-    print_text(b"actions there and back: ");
-    print_number(count_back(65536, false));
-    print_text(b"\nkinds there and back: ");
-    print_number(count_back(2097152, true));
-    print_text(b"\n");
-    print_lines();
+fn main(rt: HostRuntime) {
+    print_text(rt, b"actions there and back: ");
+    print_number(rt, count_back(65536, false));
+    print_text(rt, b"\nkinds there and back: ");
+    print_number(rt, count_back(2097152, true));
+    print_text(rt, b"\n");
+    print_lines(rt);
 }

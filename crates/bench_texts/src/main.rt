@@ -4,7 +4,6 @@
 #![tactic(auto)]
 use as2_pcode::{Counts, Reading};
 use fronts::{Lent, least};
-use libc::STDOUT_FILENO;
 use numbers::Natural;
 use printing::{print_bits, print_number, print_refusal, print_signed, print_text};
 use tokens::Token;
@@ -13,49 +12,47 @@ use values::{PushValue, TokenValue};
 // ---- the text of a line
 
 // What a terminal would not show is written as in Rust.
-fn print_byte(b: u8) {
+fn print_byte(rt: HostRuntime, b: u8) {
     if b == 10 {
-        print_text(b"\\n");
+        print_text(rt, b"\\n");
         return;
     }
     if b < 32 {
-        print_escape(b);
+        print_escape(rt, b);
         return;
     }
     if 126 < b {
-        print_escape(b);
+        print_escape(rt, b);
         return;
     }
     let one = [b];
-    print_text(&one);
+    print_text(rt, &one);
 }
 
-fn print_escape(b: u8) {
-    print_text(b"\\x");
-    io::print_hex(STDOUT_FILENO, b as u64, 2);
+fn print_escape(rt: HostRuntime, b: u8) {
+    print_text(rt, b"\\x");
+    let _ = print!(rt; "{b:02x}");
 }
 
-fn print_bytes(text: &[u8]) {
-    let mut i = 0;
-    while i < text.len() {
-        print_byte(text[i]);
-        i += 1;
+fn print_bytes(rt: HostRuntime, text: &[u8]) {
+    for i in 0..text.len() {
+        print_byte(rt, text[i]);
     }
 }
 
-fn print_head(text: &[u8]) {
+fn print_head(rt: HostRuntime, text: &[u8]) {
     if text.len() == 0 {
-        print_text(b"empty");
+        print_text(rt, b"empty");
     }
-    print_bytes(text);
-    print_text(b": ");
+    print_bytes(rt, text);
+    print_text(rt, b": ");
 }
 
 // ---- what reading answers
 
-fn print_named(what: &[u8], n: usize) {
-    print_text(what);
-    print_number(n as u64);
+fn print_named(rt: HostRuntime, what: &[u8], n: usize) {
+    print_text(rt, what);
+    print_number(rt, n as u64);
 }
 
 // The whole number that a double is, if it is one.
@@ -75,127 +72,121 @@ fn whole(x: f64) -> Natural {
 }
 
 // Minus zero by its sign, which no comparison shows; a whole number in digits; any other double by its bits.
-fn print_double(x: f64) {
+fn print_double(rt: HostRuntime, x: f64) {
     let bits = values::bits_of(x);
     if bits == 0x8000_0000_0000_0000 {
-        print_text(b"-0");
+        print_text(rt, b"-0");
         return;
     }
     match whole(x) {
-        Natural::Is(n) => print_number(n),
-        Natural::Nothing => print_bits(bits),
+        Natural::Is(n) => print_number(rt, n),
+        Natural::Nothing => print_bits(rt, bits),
     }
 }
 
 // The cases that hold nothing.
-fn print_word(v: PushValue) {
+fn print_word(rt: HostRuntime, v: PushValue) {
     match v {
-        PushValue::Null => print_text(b"null"),
-        PushValue::Undefined => print_text(b"undefined"),
-        PushValue::True => print_text(b"true"),
-        PushValue::False => print_text(b"false"),
+        PushValue::Null => print_text(rt, b"null"),
+        PushValue::Undefined => print_text(rt, b"undefined"),
+        PushValue::True => print_text(rt, b"true"),
+        PushValue::False => print_text(rt, b"false"),
         _ => {}
     }
 }
 
 // The cases that hold something, which is printed behind it.
-fn print_case(v: PushValue) {
+fn print_case(rt: HostRuntime, v: PushValue) {
     match v {
-        PushValue::String(_) => print_text(b"string "),
-        PushValue::Integer(_) => print_text(b"integer "),
-        PushValue::Float(_) => print_text(b"double "),
-        PushValue::Register(_) => print_text(b"register "),
-        PushValue::Constant(_) => print_text(b"constant "),
-        PushValue::Long(_) => print_text(b"long "),
+        PushValue::String(_) => print_text(rt, b"string "),
+        PushValue::Integer(_) => print_text(rt, b"integer "),
+        PushValue::Float(_) => print_text(rt, b"double "),
+        PushValue::Register(_) => print_text(rt, b"register "),
+        PushValue::Constant(_) => print_text(rt, b"constant "),
+        PushValue::Long(_) => print_text(rt, b"long "),
         _ => {}
     }
 }
 
-fn print_held(raw: &[u8], v: PushValue) {
+fn print_held(rt: HostRuntime, raw: &[u8], v: PushValue) {
     match v {
-        PushValue::String(_) => print_bytes(raw),
-        PushValue::Integer(n) => print_signed(n),
-        PushValue::Float(x) => print_double(x),
-        PushValue::Register(n) => print_number(n as u64),
-        PushValue::Constant(n) => print_number(n as u64),
-        PushValue::Long(_) => print_bytes(raw),
+        PushValue::String(_) => print_bytes(rt, raw),
+        PushValue::Integer(n) => print_signed(rt, n),
+        PushValue::Float(x) => print_double(rt, x),
+        PushValue::Register(n) => print_number(rt, n as u64),
+        PushValue::Constant(n) => print_number(rt, n as u64),
+        PushValue::Long(_) => print_bytes(rt, raw),
         _ => {}
     }
 }
 
 // An operand's value; the name of a label has none.
-fn print_operand(text: &[u8], token: Token) {
+fn print_operand(rt: HostRuntime, text: &[u8], token: Token) {
     let raw = tokens::raw_text(text, token);
     match values::value(text, token) {
         TokenValue::Is(v) => {
-            print_word(v);
-            print_case(v);
-            print_held(raw, v);
+            print_word(rt, v);
+            print_case(rt, v);
+            print_held(rt, raw, v);
         }
         TokenValue::Refused(_) => {
-            print_text(b"name ");
-            print_bytes(raw);
+            print_text(rt, b"name ");
+            print_bytes(rt, raw);
         }
     }
 }
 
-fn print_flag(unclosed: bool) {
+fn print_flag(rt: HostRuntime, unclosed: bool) {
     if unclosed {
-        print_text(b" unclosed");
+        print_text(rt, b" unclosed");
     }
 }
 
-fn print_operands(text: &[u8], words: &[u64], operands: &[u64], n: usize) {
-    let mut i = 0;
-    while i < n {
-        print_text(b"; ");
+fn print_operands(rt: HostRuntime, text: &[u8], words: &[u64], operands: &[u64], n: usize) {
+    for i in 0..n {
+        print_text(rt, b"; ");
         let operand = entries::operand_in(operands, i);
-        print_operand(text, entries::token_in(words, operand.token));
-        print_flag(operand.unclosed);
-        i += 1;
+        print_operand(rt, text, entries::token_in(words, operand.token));
+        print_flag(rt, operand.unclosed);
     }
 }
 
 // The unclosed strings of a level that has any.
-fn print_level(levels: &[u64], i: usize) {
+fn print_level(rt: HostRuntime, levels: &[u64], i: usize) {
     let level = entries::level_in(levels, i);
     if level.unclosed == 0 {
         return;
     }
-    print_named(b"; level ", i);
-    print_named(b" unclosed ", level.unclosed);
+    print_named(rt, b"; level ", i);
+    print_named(rt, b" unclosed ", level.unclosed);
 }
 
-fn print_levels(levels: &[u64], n: usize) {
-    let mut i = 0;
-    while i < n {
-        print_level(levels, i);
-        i += 1;
+fn print_levels(rt: HostRuntime, levels: &[u64], n: usize) {
+    for i in 0..n {
+        print_level(rt, levels, i);
     }
 }
 
 // As `pcode-list` prints it: level, name, position.
-fn print_label(text: &[u8], words: &[u64], labels: &[u64], i: usize) {
+fn print_label(rt: HostRuntime, text: &[u8], words: &[u64], labels: &[u64], i: usize) {
     let label = entries::label_in(labels, i);
-    print_named(b"; label ", label.level);
-    print_text(b" ");
-    print_bytes(tokens::raw_text(text, entries::token_in(words, label.token)));
-    print_named(b" ", label.position);
+    print_named(rt, b"; label ", label.level);
+    print_text(rt, b" ");
+    print_bytes(rt, tokens::raw_text(text, entries::token_in(words, label.token)));
+    print_named(rt, b" ", label.position);
 }
 
-fn print_labels(text: &[u8], words: &[u64], labels: &[u64], n: usize) {
-    let mut i = 0;
-    while i < n {
-        print_label(text, words, labels, i);
-        i += 1;
+fn print_labels(rt: HostRuntime, text: &[u8], words: &[u64], labels: &[u64], n: usize) {
+    for i in 0..n {
+        print_label(rt, text, words, labels, i);
     }
 }
 
-fn print_counts(c: Counts) {
-    print_named(b"levels ", c.levels);
-    print_named(b" actions ", c.actions);
-    print_named(b" operands ", c.operands);
-    print_named(b" labels ", c.labels);
+fn print_counts(rt: HostRuntime, c: Counts) {
+    print_named(rt, b"levels ", c.levels);
+    print_named(rt, b" actions ", c.actions);
+    print_named(rt, b" operands ", c.operands);
+    print_named(rt, b" labels ", c.labels);
 }
 
 const NO_ENTRIES: Counts = Counts {
@@ -207,35 +198,34 @@ const NO_ENTRIES: Counts = Counts {
 };
 
 // Prints a refusal, or the counts of a reading, and says how many entries each table has.
-fn entries_of(reading: Reading) -> Counts {
+fn entries_of(rt: HostRuntime, reading: Reading) -> Counts {
     match reading {
         Reading::Read(c) => {
-            print_counts(c);
+            print_counts(rt, c);
             c
         }
         Reading::Refused(r) => {
-            print_refusal(r);
+            print_refusal(rt, r);
             NO_ENTRIES
         }
     }
 }
 
-fn answer(
-    text: &[u8],
+fn answer(rt: HostRuntime, text: &[u8],
     words: &[u64; 1024],
     operands: &[u64; 1024],
     levels: &[u64; 2048],
     labels: &[u64; 1024],
     reading: Reading,
 ) {
-    let c = entries_of(reading);
-    print_operands(text, words, operands, c.operands);
-    print_levels(levels, c.levels);
-    print_labels(text, words, labels, c.labels);
-    print_text(b"\n");
+    let c = entries_of(rt, reading);
+    print_operands(rt, text, words, operands, c.operands);
+    print_levels(rt, levels, c.levels);
+    print_labels(rt, text, words, labels, c.labels);
+    print_text(rt, b"\n");
 }
 
-fn read_small(text: &[u8]) {
+fn read_small(rt: HostRuntime, text: &[u8]) {
     let mut words = [0u64; 1024];
     let mut actions = [0u64; 1024];
     let mut operands = [0u64; 1024];
@@ -249,17 +239,17 @@ fn read_small(text: &[u8]) {
         &mut levels,
         &mut labels,
     );
-    answer(text, &words, &operands, &levels, &labels, reading);
+    answer(rt, text, &words, &operands, &levels, &labels, reading);
 }
 
 // A token for each byte, and an action for each four; of these texts none has operands or labels.
-fn read_large(text: &[u8]) {
+fn read_large(rt: HostRuntime, text: &[u8]) {
     let mut words = [0u64; 65536];
     let mut actions = [0u64; 16384];
     let mut operands = [0u64; 1024];
     let mut levels = [0u64; 2048];
     let mut labels = [0u64; 1024];
-    entries_of(fronts::read_whole(
+    entries_of(rt, fronts::read_whole(
         text,
         &mut words,
         &mut actions,
@@ -267,12 +257,12 @@ fn read_large(text: &[u8]) {
         &mut levels,
         &mut labels,
     ));
-    print_text(b"\n");
+    print_text(rt, b"\n");
 }
 
-fn show(text: &[u8]) {
-    print_head(text);
-    read_small(text);
+fn show(rt: HostRuntime, text: &[u8]) {
+    print_head(rt, text);
+    read_small(rt, text);
 }
 
 // ---- nestings and sizes
@@ -295,10 +285,8 @@ fn fill(text: &mut [u8], from: usize, to: usize, piece: &[u8]) {
     if text.len() < to {
         return;
     }
-    let mut i = from;
-    while i < to {
+    for i in from..to {
         text[i] = repeated(piece, i - from);
-        i += 1;
     }
 }
 
@@ -308,7 +296,7 @@ fn front(text: &[u8], n: usize) -> &[u8] {
 }
 
 // That many With inside one another, with a line feed only after each closing brace, between two short texts.
-fn read_nested(before: &[u8], blocks: usize, behind: &[u8]) {
+fn read_nested(rt: HostRuntime, before: &[u8], blocks: usize, behind: &[u8]) {
     let start = least(before.len(), 100);
     let more = least(behind.len(), 100);
     let opened = start + least(blocks, 100) * 6;
@@ -318,51 +306,49 @@ fn read_nested(before: &[u8], blocks: usize, behind: &[u8]) {
     fill(&mut text, start, opened, b"With {");
     fill(&mut text, opened, closed, b"}\n");
     fill(&mut text, closed, closed + more, behind);
-    read_small(front(&text, closed + more));
+    read_small(rt, front(&text, closed + more));
 }
 
-fn show_nested(before: &[u8], blocks: usize, behind: &[u8]) {
-    print_bytes(before);
-    print_number(blocks as u64);
-    print_text(b" nested With");
-    print_bytes(behind);
-    print_text(b": ");
-    read_nested(before, blocks, behind);
+fn show_nested(rt: HostRuntime, before: &[u8], blocks: usize, behind: &[u8]) {
+    print_bytes(rt, before);
+    print_number(rt, blocks as u64);
+    print_text(rt, b" nested With");
+    print_bytes(rt, behind);
+    print_text(rt, b": ");
+    read_nested(rt, before, blocks, behind);
 }
 
 // A piece again and again in a text of the largest size, and of a byte more.
-fn show_size(piece: &[u8]) {
+fn show_size(rt: HostRuntime, piece: &[u8]) {
     let mut text = [0u8; 65537];
     fill(&mut text, 0, 65537, piece);
-    print_text(b"65536 bytes of ");
-    print_head(piece);
-    read_large(front(&text, 65536));
-    print_text(b"65537 bytes of ");
-    print_head(piece);
-    read_large(&text);
+    print_text(rt, b"65536 bytes of ");
+    print_head(rt, piece);
+    read_large(rt, front(&text, 65536));
+    print_text(rt, b"65537 bytes of ");
+    print_head(rt, piece);
+    read_large(rt, &text);
 }
 
 // ---- tables
 
 const MARK: u64 = 16045690984503098046;
 
-fn print_lent(p: Lent) {
-    print_named(b"tables of ", p.tokens);
-    print_named(b" ", p.actions);
-    print_named(b" ", p.operands);
-    print_named(b" ", p.levels);
-    print_named(b" ", p.labels);
-    print_text(b" words, ");
+fn print_lent(rt: HostRuntime, p: Lent) {
+    print_named(rt, b"tables of ", p.tokens);
+    print_named(rt, b" ", p.actions);
+    print_named(rt, b" ", p.operands);
+    print_named(rt, b" ", p.levels);
+    print_named(rt, b" ", p.labels);
+    print_text(rt, b" words, ");
 }
 
 // Whether a table holds the mark from a place on.
 fn is_marked(table: &[u64], from: usize) -> bool {
-    let mut i = from;
-    while i < table.len() {
+    for i in from..table.len() {
         if table[i] != MARK {
             return false;
         }
-        i += 1;
     }
     true
 }
@@ -391,24 +377,24 @@ fn are_marked(
     is_marked(labels, c.labels)
 }
 
-fn print_kept(kept: bool) {
+fn print_kept(rt: HostRuntime, kept: bool) {
     if kept {
-        print_text(b"; no other place changed\n");
+        print_text(rt, b"; no other place changed\n");
         return;
     }
-    print_text(b"; MORE CHANGED\n");
+    print_text(rt, b"; MORE CHANGED\n");
 }
 
 // Lends tables of so many words, parts of longer ones that are marked all over.
-fn show_tables(text: &[u8], p: Lent) {
-    print_lent(p);
-    print_head(text);
+fn show_tables(rt: HostRuntime, text: &[u8], p: Lent) {
+    print_lent(rt, p);
+    print_head(rt, text);
     let mut words = [MARK; 33];
     let mut actions = [MARK; 33];
     let mut operands = [MARK; 33];
     let mut levels = [MARK; 33];
     let mut labels = [MARK; 33];
-    let n = entries_of(fronts::read_fronts(
+    let n = entries_of(rt, fronts::read_fronts(
         text,
         p,
         &mut words,
@@ -417,19 +403,17 @@ fn show_tables(text: &[u8], p: Lent) {
         &mut levels,
         &mut labels,
     ));
-    print_kept(are_marked(n, &words, &actions, &operands, &levels, &labels));
+    print_kept(rt, are_marked(n, &words, &actions, &operands, &levels, &labels));
 }
 
-fn show_words(
-    text: &[u8],
+fn show_words(rt: HostRuntime, text: &[u8],
     tokens: usize,
     actions: usize,
     operands: usize,
     levels: usize,
     labels: usize,
 ) {
-    show_tables(
-        text,
+    show_tables(rt, text,
         Lent {
             tokens,
             actions,
@@ -442,116 +426,116 @@ fn show_words(
 
 // ---- the texts
 
-fn values() {
-    show(b"");
-    show(b"Push 1e5");
-    show(b"Push 1e5\n");
-    show(b"Push 2147483647, 2147483648");
-    show(b"Push -0, -0.0");
-    show(b"Push constant65536");
-    show(b"Push constant65535");
-    show(b"Push register256");
-    show(b"Push register255");
+fn values(rt: HostRuntime) {
+    show(rt, b"");
+    show(rt, b"Push 1e5");
+    show(rt, b"Push 1e5\n");
+    show(rt, b"Push 2147483647, 2147483648");
+    show(rt, b"Push -0, -0.0");
+    show(rt, b"Push constant65536");
+    show(rt, b"Push constant65535");
+    show(rt, b"Push register256");
+    show(rt, b"Push register255");
 }
 
-fn strings() {
-    show(b"\"");
-    show(b"GotoLabel \"ab");
-    show(b"GotoLabel \"\xc3\xa9");
-    show(b"DefineFunction \"f\", -3 {}");
+fn strings(rt: HostRuntime) {
+    show(rt, b"\"");
+    show(rt, b"GotoLabel \"ab");
+    show(rt, b"GotoLabel \"\xc3\xa9");
+    show(rt, b"DefineFunction \"f\", -3 {}");
 }
 
-fn blocks() {
-    show(b"With { Add }");
-    show(b"With { a: }");
-    show(b"a: Add\na: Pop");
-    show(b"StoreRegister 255");
-    show(b"StoreRegister 256");
-    show(b"StoreRegister -0");
+fn blocks(rt: HostRuntime) {
+    show(rt, b"With { Add }");
+    show(rt, b"With { a: }");
+    show(rt, b"a: Add\na: Pop");
+    show(rt, b"StoreRegister 255");
+    show(rt, b"StoreRegister 256");
+    show(rt, b"StoreRegister -0");
 }
 
-fn limits() {
-    show_nested(b"", 64, b"");
-    show_nested(b"", 65, b"");
-    show_size(b"Add\n");
-    show_size(b"\n");
-    show_size(b"\t");
+fn limits(rt: HostRuntime) {
+    show_nested(rt, b"", 64, b"");
+    show_nested(rt, b"", 65, b"");
+    show_size(rt, b"Add\n");
+    show_size(rt, b"\n");
+    show_size(rt, b"\t");
 }
 
 // The traps at the door: a byte order mark, exponent digits at the end, a repeated label, `constant65536`.
-fn traps() {
-    show(b"\xef\xbb\xbf");
-    show(b"\xef\xbb\xbfAdd\n");
-    show(b"Push 1e55");
-    show(b"Push 1e5 ");
-    show(b"a: b: Add\na: Pop");
-    show(b"constant65536: Jump constant65536");
-    show(b"register256: Jump register256");
+fn traps(rt: HostRuntime) {
+    show(rt, b"\xef\xbb\xbf");
+    show(rt, b"\xef\xbb\xbfAdd\n");
+    show(rt, b"Push 1e55");
+    show(rt, b"Push 1e5 ");
+    show(rt, b"a: b: Add\na: Pop");
+    show(rt, b"constant65536: Jump constant65536");
+    show(rt, b"register256: Jump register256");
 }
 
 // The order of the rows: 2 before 3, 3 before 6, and the earlier of 3 and 4, and of 6 and 7.
-fn rows() {
-    show(b"Add\xff\"");
-    show(b"\"\n\"\xc3\xa9");
-    show(b"\"\xc3\xa9\n\"");
-    show(b"} \"");
-    show_nested(b"} ", 65, b"");
-    show_nested(b"", 65, b" }");
+fn rows(rt: HostRuntime) {
+    show(rt, b"Add\xff\"");
+    show(rt, b"\"\n\"\xc3\xa9");
+    show(rt, b"\"\xc3\xa9\n\"");
+    show(rt, b"} \"");
+    show_nested(rt, b"} ", 65, b"");
+    show_nested(rt, b"", 65, b" }");
 }
 
 // Strings without their closing quote: at the end of a line, behind an escaped quote (and a closed one behind an escaped
 // backslash), the last of a pool, in a level and in the body there, in a body alone.
-fn unclosed() {
-    show(b"Push \"a\", \"b\n");
-    show(b"Push \"a\\\"\n");
-    show(b"Push \"a\\\\\"\n");
-    show(b"ConstantPool \"a\", \"b\", \"cd\nPush constant2\n");
-    show(b"Push \"ab\nWith {\nPush \"cd\n}\nPush \"e\"\n");
-    show(b"DefineFunction \"f\", 0 {\nPush 1, \"ab\nTrace\nGetUrl \"u\", \"vw\n}\nPush \"e\"\n");
+fn unclosed(rt: HostRuntime) {
+    show(rt, b"Push \"a\", \"b\n");
+    show(rt, b"Push \"a\\\"\n");
+    show(rt, b"Push \"a\\\\\"\n");
+    show(rt, b"ConstantPool \"a\", \"b\", \"cd\nPush constant2\n");
+    show(rt, b"Push \"ab\nWith {\nPush \"cd\n}\nPush \"e\"\n");
+    show(rt, b"DefineFunction \"f\", 0 {\nPush 1, \"ab\nTrace\nGetUrl \"u\", \"vw\n}\nPush \"e\"\n");
 }
 
 // Rows 5 and 8: the example of `pcode-list` has 19 tokens, 4 actions, 3 operands, 2 levels of two words each, and 2 labels.
-fn example(tokens: usize, actions: usize, operands: usize, levels: usize, labels: usize) {
+fn example(rt: HostRuntime, tokens: usize, actions: usize, operands: usize, levels: usize, labels: usize) {
     let text = b"start: Push \"ok\", 3\nWith {\nTrace\ndone: }\nJump start\n";
-    show_words(text, tokens, actions, operands, levels, labels);
+    show_words(rt, text, tokens, actions, operands, levels, labels);
 }
 
-fn tables() {
-    example(19, 4, 3, 4, 2);
-    example(32, 32, 32, 32, 32);
-    example(18, 4, 3, 4, 2);
-    example(19, 3, 3, 4, 2);
-    example(19, 4, 2, 4, 2);
-    example(19, 4, 3, 3, 2);
-    example(19, 4, 3, 4, 1);
-    example(18, 3, 2, 3, 1);
-    example(19, 3, 2, 3, 1);
-    example(19, 4, 2, 3, 1);
-    example(19, 4, 3, 3, 1);
-    example(0, 0, 0, 0, 0);
+fn tables(rt: HostRuntime) {
+    example(rt, 19, 4, 3, 4, 2);
+    example(rt, 32, 32, 32, 32, 32);
+    example(rt, 18, 4, 3, 4, 2);
+    example(rt, 19, 3, 3, 4, 2);
+    example(rt, 19, 4, 2, 4, 2);
+    example(rt, 19, 4, 3, 3, 2);
+    example(rt, 19, 4, 3, 4, 1);
+    example(rt, 18, 3, 2, 3, 1);
+    example(rt, 19, 3, 2, 3, 1);
+    example(rt, 19, 4, 2, 3, 1);
+    example(rt, 19, 4, 3, 3, 1);
+    example(rt, 0, 0, 0, 0, 0);
 }
 
 // Of an odd number of words the last is no place of the level table, and stays as it was.
-fn other_tables() {
-    example(19, 4, 3, 5, 2);
-    example(19, 4, 3, 2, 2);
-    show_words(b"", 0, 0, 0, 2, 0);
-    show_words(b"", 0, 0, 0, 3, 0);
-    show_words(b"", 0, 0, 0, 1, 0);
-    show_words(b"", 0, 0, 0, 0, 0);
-    show_words(b"With { Add }", 4, 0, 0, 0, 0);
-    show_words(b"With { Add }", 3, 0, 0, 0, 0);
-    show_words(b"\"", 0, 0, 0, 0, 0);
+fn other_tables(rt: HostRuntime) {
+    example(rt, 19, 4, 3, 5, 2);
+    example(rt, 19, 4, 3, 2, 2);
+    show_words(rt, b"", 0, 0, 0, 2, 0);
+    show_words(rt, b"", 0, 0, 0, 3, 0);
+    show_words(rt, b"", 0, 0, 0, 1, 0);
+    show_words(rt, b"", 0, 0, 0, 0, 0);
+    show_words(rt, b"With { Add }", 4, 0, 0, 0, 0);
+    show_words(rt, b"With { Add }", 3, 0, 0, 0, 0);
+    show_words(rt, b"\"", 0, 0, 0, 0, 0);
 }
 
-fn main() {
-    values();
-    strings();
-    blocks();
-    limits();
-    traps();
-    rows();
-    unclosed();
-    tables();
-    other_tables();
+fn main(rt: HostRuntime) {
+    values(rt);
+    strings(rt);
+    blocks(rt);
+    limits(rt);
+    traps(rt);
+    rows(rt);
+    unclosed(rt);
+    tables(rt);
+    other_tables(rt);
 }

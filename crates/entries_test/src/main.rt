@@ -7,51 +7,50 @@ use entry_reading::read_entries;
 use label_entries::{FoundLabel, find_label, label_at};
 use printing::{print_number, print_refusal, print_text};
 
-fn print_field(n: usize) {
-    print_text(b" ");
-    print_number(n as u64);
+fn print_field(rt: HostRuntime, n: usize) {
+    print_text(rt, b" ");
+    print_number(rt, n as u64);
 }
 
-fn print_label(label: Label) {
-    print_text(b"; label");
-    print_field(label.level);
-    print_field(label.token);
-    print_field(label.position);
+fn print_label(rt: HostRuntime, label: Label) {
+    print_text(rt, b"; label");
+    print_field(rt, label.level);
+    print_field(rt, label.token);
+    print_field(rt, label.position);
 }
 
-fn print_counts(c: Counts) {
-    print_text(b"read");
-    print_field(c.tokens);
-    print_field(c.actions);
-    print_field(c.operands);
-    print_field(c.levels);
-    print_field(c.labels);
+fn print_counts(rt: HostRuntime, c: Counts) {
+    print_text(rt, b"read");
+    print_field(rt, c.tokens);
+    print_field(rt, c.actions);
+    print_field(rt, c.operands);
+    print_field(rt, c.levels);
+    print_field(rt, c.labels);
 }
 
-fn print_found(found: FoundLabel) {
+fn print_found(rt: HostRuntime, found: FoundLabel) {
     match found {
         FoundLabel::At(i) => {
-            print_text(b"; found at");
-            print_field(i);
+            print_text(rt, b"; found at");
+            print_field(rt, i);
         }
-        FoundLabel::Nothing => print_text(b"; not found"),
+        FoundLabel::Nothing => print_text(rt, b"; not found"),
     }
-    print_text(b"\n");
+    print_text(rt, b"\n");
 }
 
-fn print_answer(reading: Reading, first: Label, second: Label, found: FoundLabel) {
+fn print_answer(rt: HostRuntime, reading: Reading, first: Label, second: Label, found: FoundLabel) {
     match reading {
-        Reading::Read(c) => print_counts(c),
-        Reading::Refused(r) => print_refusal(r),
+        Reading::Read(c) => print_counts(rt, c),
+        Reading::Refused(r) => print_refusal(rt, r),
     }
-    print_label(first);
-    print_label(second);
-    print_found(found);
+    print_label(rt, first);
+    print_label(rt, second);
+    print_found(rt, found);
 }
 
 // `lexed` holds the tokens that reading finds too: a table that is lent as `&mut` is given up.
-fn read_two(
-    text: &[u8],
+fn read_two(rt: HostRuntime, text: &[u8],
     lexed: &[u64],
     name: &[u8],
     tokens: &mut [u64],
@@ -70,18 +69,17 @@ fn read_two(
     let first = label_at(held, 0);
     let second = label_at(held, 1);
     let found = find_label(text, lexed, held, 0, name);
-    print_answer(reading, first, second, found);
+    print_answer(rt, reading, first, second, found);
 }
 
-fn try_text(text: &[u8], name: &[u8]) {
+fn try_text(rt: HostRuntime, text: &[u8], name: &[u8]) {
     let mut lexed = [0u64; 64];
     lexer::lex(text, &mut lexed);
     let mut tokens = [0u64; 64];
     let mut actions = [0u64; 64];
     let mut operands = [0u64; 64];
     let mut levels = [0u64; 64];
-    read_two(
-        text,
+    read_two(rt, text,
         &lexed,
         name,
         &mut tokens,
@@ -91,15 +89,15 @@ fn try_text(text: &[u8], name: &[u8]) {
     );
 }
 
-fn main() {
+fn main(rt: HostRuntime) {
     // a label in a block, and one behind it
-    try_text(b"With {\nin: }\nout: Pop\n", b"out");
-    try_text(b"With {\nin: }\nout: Pop\n", b"in");
+    try_text(rt, b"With {\nin: }\nout: Pop\n", b"out");
+    try_text(rt, b"With {\nin: }\nout: Pop\n", b"in");
     // written again: the first token, the new position
-    try_text(b"a: Add\nb: Add\na: Pop\n", b"a");
+    try_text(rt, b"a: Add\nb: Add\na: Pop\n", b"a");
     // full, and one short
-    try_text(b"a: b: Add\n", b"b");
-    try_text(b"a: b: c: Add\n", b"a");
-    try_text(b"With { Add }\n", b"a");
-    try_text(b"", b"");
+    try_text(rt, b"a: b: Add\n", b"b");
+    try_text(rt, b"a: b: c: Add\n", b"a");
+    try_text(rt, b"With { Add }\n", b"a");
+    try_text(rt, b"", b"");
 }

@@ -62,11 +62,9 @@ pub fn expect_actions(
     n: usize,
 ) -> Cursor {
     let mut c = c;
-    let mut i = 0;
-    while i < n {
+    for i in 0..n {
         let action = entries::action_in(acted, i);
         c = expect_action(list, c, text, words, operands, action);
-        i += 1;
     }
     c
 }
@@ -108,11 +106,9 @@ fn expect_operand(list: &[u8], c: Cursor, words: &[u64], operand: Operand) -> Cu
 
 fn expect_operands(list: &[u8], c: Cursor, words: &[u64], operands: &[u64], n: usize) -> Cursor {
     let mut c = c;
-    let mut i = 0;
-    while i < n {
+    for i in 0..n {
         let operand = entries::operand_in(operands, i);
         c = expect_operand(list, c, words, operand);
-        i += 1;
     }
     c
 }
@@ -120,11 +116,9 @@ fn expect_operands(list: &[u8], c: Cursor, words: &[u64], operands: &[u64], n: u
 // How many operands have a closing as told above.
 fn count_closing(words: &[u64], operands: &[u64], n: usize, of: u64) -> u64 {
     let mut good: u64 = 0;
-    let mut i = 0;
-    while i < n {
+    for i in 0..n {
         let told = closing_at(words, entries::operand_in(operands, i));
         good = std::num::wrapping_add_u64(good, one_if(told == of));
-        i += 1;
     }
     good
 }
@@ -163,10 +157,8 @@ fn expect_level(list: &[u8], c: Cursor, level: Level) -> Cursor {
 
 fn expect_levels(list: &[u8], c: Cursor, levels: &[u64], n: usize) -> Cursor {
     let mut c = c;
-    let mut i = 0;
-    while i < n {
+    for i in 0..n {
         c = expect_level(list, c, entries::level_in(levels, i));
-        i += 1;
     }
     c
 }
@@ -196,11 +188,9 @@ fn expect_labels(
     n: usize,
 ) -> Cursor {
     let mut c = c;
-    let mut i = 0;
-    while i < n {
+    for i in 0..n {
         let label = entries::label_in(labels, i);
         c = expect_named(list, c, text, words, label);
-        i += 1;
     }
     c
 }
@@ -287,15 +277,15 @@ pub fn add(t: Totals, n: Entries, words: &[u64], operands: &[u64], c: Cursor) ->
     }
 }
 
-pub fn print_totals(t: Totals) {
-    print_count(t.texts, b" texts, ");
-    print_count(t.refused, b" refused\n");
-    print_count(t.actions, b" actions, ");
-    print_count(t.operands, b" operands, ");
-    print_count(t.closed, b" strings closed, ");
-    print_count(t.unclosed, b" unclosed, ");
-    print_count(t.levels, b" levels, ");
-    print_count(t.labels, b" labels\n");
-    print_count(t.passed, b" numbers passed over\n");
-    print_count(t.differences, b" differences\n");
+pub fn print_totals(rt: HostRuntime, t: Totals) {
+    print_count(rt, t.texts, b" texts, ");
+    print_count(rt, t.refused, b" refused\n");
+    print_count(rt, t.actions, b" actions, ");
+    print_count(rt, t.operands, b" operands, ");
+    print_count(rt, t.closed, b" strings closed, ");
+    print_count(rt, t.unclosed, b" unclosed, ");
+    print_count(rt, t.levels, b" levels, ");
+    print_count(rt, t.labels, b" labels\n");
+    print_count(rt, t.passed, b" numbers passed over\n");
+    print_count(rt, t.differences, b" differences\n");
 }

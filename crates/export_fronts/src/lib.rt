@@ -69,24 +69,20 @@ pub const MARK: u64 = 0xA5A5_A5A5_A5A5_A5A5;
 pub const MARK_BYTE: u8 = 0xA5;
 
 pub fn is_marked(table: &[u64]) -> bool {
-    let mut i = 0;
-    while i < table.len() {
+    for i in 0..table.len() {
         if table[i] != MARK {
             return false;
         }
-        i += 1;
     }
     true
 }
 
 // Whether an output holds the mark from a place on.
 pub fn is_marked_from(out: &[u8], from: usize) -> bool {
-    let mut i = from;
-    while i < out.len() {
+    for i in from..out.len() {
         if out[i] != MARK_BYTE {
             return false;
         }
-        i += 1;
     }
     true
 }
@@ -124,12 +120,10 @@ pub fn same_words(a: &[u64], b: &[u64]) -> bool {
     if a.len() != b.len() {
         return false;
     }
-    let mut i = 0;
-    while i < a.len() {
+    for i in 0..a.len() {
         if a[i] != b[i] {
             return false;
         }
-        i += 1;
     }
     true
 }
@@ -138,12 +132,10 @@ pub fn same_bytes(a: &[u8], b: &[u8]) -> bool {
     if a.len() != b.len() {
         return false;
     }
-    let mut i = 0;
-    while i < a.len() {
+    for i in 0..a.len() {
         if a[i] != b[i] {
             return false;
         }
-        i += 1;
     }
     true
 }

@@ -16,6 +16,7 @@ use export_fronts::{
 use fronts::{Lent, least};
 use printing::{print_number, print_text};
 use records::{Cursor, number_from};
+use std::io;
 
 // ---- counts
 
@@ -48,15 +49,15 @@ fn count_of(counts: &[u64; 23], i: usize) -> u64 {
 }
 
 // A difference is printed as it is found, with the number of the text.
-fn hold_to(good: bool, what: &[u8], counts: &mut [u64; 23]) {
+fn hold_to(rt: HostRuntime, good: bool, what: &[u8], counts: &mut [u64; 23]) {
     if good {
         return;
     }
-    print_text(b"text ");
-    print_number(count_of(counts, CALLS));
-    print_text(b" differs: ");
-    print_text(what);
-    print_text(b"\n");
+    print_text(rt, b"text ");
+    print_number(rt, count_of(counts, CALLS));
+    print_text(rt, b" differs: ");
+    print_text(rt, what);
+    print_text(rt, b"\n");
     add(counts, DIFFERENCES, 1);
 }
 
@@ -297,12 +298,12 @@ fn is_refused(
 
 // ---- one short
 
-fn hold_short_output(text: &[u8], lent: Lent, style: Style, n: usize, counts: &mut [u64; 23]) {
+fn hold_short_output(rt: HostRuntime, text: &[u8], lent: Lent, style: Style, n: usize, counts: &mut [u64; 23]) {
     if n == 0 {
         return;
     }
     let refused = is_refused(text, lent, n - 1, style, 12, n);
-    hold_to(refused, b"output one byte short", counts);
+    hold_to(rt, refused, b"output one byte short", counts);
     add(counts, SHORT_OUTPUTS, 1);
 }
 
@@ -347,8 +348,7 @@ fn words_in(lent: Lent, table: usize) -> usize {
 }
 
 // A table that no entry is for cannot be short.
-fn hold_short_table(
-    text: &[u8],
+fn hold_short_table(rt: HostRuntime, text: &[u8],
     full: Lent,
     room: usize,
     style: Style,
@@ -360,7 +360,7 @@ fn hold_short_table(
     }
     let short = short_lent(full, table);
     let refused = is_short(text, short, room, style, table, full.tokens);
-    hold_to(refused, b"table one place short", counts);
+    hold_to(rt, refused, b"table one place short", counts);
     add(counts, SHORT_TABLES, 1);
 }
 
@@ -379,19 +379,18 @@ fn is_short(
     is_refused(text, short, room, style, 8, table - 1)
 }
 
-fn hold_short_tables(text: &[u8], full: Lent, room: usize, style: Style, counts: &mut [u64; 23]) {
-    hold_short_table(text, full, room, style, 0, counts);
-    hold_short_table(text, full, room, style, 1, counts);
-    hold_short_table(text, full, room, style, 2, counts);
-    hold_short_table(text, full, room, style, 3, counts);
-    hold_short_table(text, full, room, style, 4, counts);
+fn hold_short_tables(rt: HostRuntime, text: &[u8], full: Lent, room: usize, style: Style, counts: &mut [u64; 23]) {
+    hold_short_table(rt, text, full, room, style, 0, counts);
+    hold_short_table(rt, text, full, room, style, 1, counts);
+    hold_short_table(rt, text, full, room, style, 2, counts);
+    hold_short_table(rt, text, full, room, style, 3, counts);
+    hold_short_table(rt, text, full, room, style, 4, counts);
 }
 
 // ---- a text
 
 // Tables and bytes that export wrote, held to `read` and to export into other places.
-fn hold_written(
-    text: &[u8],
+fn hold_written(rt: HostRuntime, text: &[u8],
     call: Call,
     c: Counts,
     n: usize,
@@ -408,26 +407,25 @@ fn hold_written(
     let room = call.room;
     let full = full_lent(c);
     let kept = export_fronts::is_marked_from(out, n);
-    hold_to(kept, b"output behind the bytes", counts);
+    hold_to(rt, kept, b"output behind the bytes", counts);
     let read = is_as_read(text, lent, c, tokens, actions, operands, levels, labels);
-    hold_to(read, b"tables are not as read", counts);
+    hold_to(rt, read, b"tables are not as read", counts);
     let again = is_written_again(
         text, lent, n, style, n, tokens, actions, operands, levels, labels, out,
     );
-    hold_to(again, b"output exactly full", counts);
+    hold_to(rt, again, b"output exactly full", counts);
     add(counts, FULL_OUTPUTS, 1);
     let again = is_written_again(
         text, full, room, style, n, tokens, actions, operands, levels, labels, out,
     );
-    hold_to(again, b"tables exactly full", counts);
+    hold_to(rt, again, b"tables exactly full", counts);
     add(counts, FULL_TABLES, 1);
-    hold_short_output(text, lent, style, n, counts);
-    hold_short_tables(text, full, room, style, counts);
+    hold_short_output(rt, text, lent, style, n, counts);
+    hold_short_tables(rt, text, full, room, style, counts);
     add(counts, BYTES, n as u64);
 }
 
-fn hold_told(
-    text: &[u8],
+fn hold_told(rt: HostRuntime, text: &[u8],
     call: Call,
     told: Exporting,
     tokens: &[u64; 4096],
@@ -439,12 +437,11 @@ fn hold_told(
     counts: &mut [u64; 23],
 ) {
     match told {
-        Exporting::Written(c, n) => hold_written(
-            text, call, c, n, tokens, actions, operands, levels, labels, out, counts,
+        Exporting::Written(c, n) => hold_written(rt, text, call, c, n, tokens, actions, operands, levels, labels, out, counts,
         ),
         Exporting::Refused(_) => {
             let kept = are_marked(tokens, actions, operands, levels, labels, out);
-            hold_to(kept, b"a refusal changed something", counts);
+            hold_to(rt, kept, b"a refusal changed something", counts);
         }
     }
 }
@@ -460,8 +457,7 @@ fn expect_answer(list: &[u8], c: Cursor, told: Exporting, out: &[u8; 4096]) -> C
 }
 
 // The answer held to the list.
-fn hold_answer(
-    list: &[u8],
+fn hold_answer(rt: HostRuntime, list: &[u8],
     at: usize,
     next: usize,
     told: Exporting,
@@ -470,14 +466,14 @@ fn hold_answer(
 ) {
     let c = expect_answer(list, records::begin(at), told, out);
     let c = records::ended(c, next);
-    records::print_difference(count_of(counts, CALLS), b"vectors", c.wrong);
+    records::print_difference(rt, count_of(counts, CALLS), b"vectors", c.wrong);
     if c.wrong != 0 {
         add(counts, DIFFERENCES, 1);
     }
     add(counts, least(answer_number(told) as usize, 15), 1);
 }
 
-fn hold(list: &[u8], stop: usize, next: usize, text: &[u8], counts: &mut [u64; 23]) {
+fn hold(rt: HostRuntime, list: &[u8], stop: usize, next: usize, text: &[u8], counts: &mut [u64; 23]) {
     let mut tokens = [MARK; 4096];
     let mut actions = [MARK; 4096];
     let mut operands = [MARK; 4096];
@@ -499,71 +495,62 @@ fn hold(list: &[u8], stop: usize, next: usize, text: &[u8], counts: &mut [u64; 2
         style,
         &mut out,
     );
-    hold_answer(list, call.next, next, told, &out, counts);
-    hold_told(
-        text, call, told, &tokens, &actions, &operands, &levels, &labels, &out, counts,
+    hold_answer(rt, list, call.next, next, told, &out, counts);
+    hold_told(rt, text, call, told, &tokens, &actions, &operands, &levels, &labels, &out, counts,
     );
     add(counts, CALLS, 1);
 }
 
-fn replay(list: &[u8], counts: &mut [u64; 23]) {
+fn replay(rt: HostRuntime, list: &[u8], counts: &mut [u64; 23]) {
     let mut at = 0;
     while at < list.len() {
         let r = records::record_at(list, at);
         let start = r.start;
         let stop = r.stop;
-        hold(list, stop, r.next, &list[start..stop], counts);
+        hold(rt, list, stop, r.next, &list[start..stop], counts);
         at = r.next;
     }
 }
 
 // ---- what is printed
 
-fn print_refused(counts: &[u64; 23], number: usize) {
+fn print_refused(rt: HostRuntime, counts: &[u64; 23], number: usize) {
     let n = count_of(counts, number);
     if n == 0 {
         return;
     }
-    print_text(b", ");
-    print_number(n);
-    print_text(b" refused with ");
-    print_number(number as u64);
+    print_text(rt, b", ");
+    print_number(rt, n);
+    print_text(rt, b" refused with ");
+    print_number(rt, number as u64);
 }
 
-fn print_refusals(counts: &[u64; 23]) {
-    let mut number = 1;
-    while number < 16 {
-        print_refused(counts, number);
-        number += 1;
+fn print_refusals(rt: HostRuntime, counts: &[u64; 23]) {
+    for number in 1..16 {
+        print_refused(rt, counts, number);
     }
 }
 
-fn print_counts(counts: &[u64; 23]) {
-    records::print_count(count_of(counts, CALLS), b" calls, ");
-    records::print_count(count_of(counts, 0), b" accepted");
-    print_refusals(counts);
-    print_text(b"\n");
-    records::print_count(count_of(counts, BYTES), b" bytes compared\n");
-    records::print_count(count_of(counts, FULL_OUTPUTS), b" outputs exactly full, ");
-    records::print_count(count_of(counts, SHORT_OUTPUTS), b" one byte short\n");
-    records::print_count(
-        count_of(counts, FULL_TABLES),
+fn print_counts(rt: HostRuntime, counts: &[u64; 23]) {
+    records::print_count(rt, count_of(counts, CALLS), b" calls, ");
+    records::print_count(rt, count_of(counts, 0), b" accepted");
+    print_refusals(rt, counts);
+    print_text(rt, b"\n");
+    records::print_count(rt, count_of(counts, BYTES), b" bytes compared\n");
+    records::print_count(rt, count_of(counts, FULL_OUTPUTS), b" outputs exactly full, ");
+    records::print_count(rt, count_of(counts, SHORT_OUTPUTS), b" one byte short\n");
+    records::print_count(rt, count_of(counts, FULL_TABLES),
         b" times all tables exactly full, ",
     );
-    records::print_count(count_of(counts, SHORT_TABLES), b" tables one place short\n");
-    records::print_count(count_of(counts, DIFFERENCES), b" differences\n");
+    records::print_count(rt, count_of(counts, SHORT_TABLES), b" tables one place short\n");
+    records::print_count(rt, count_of(counts, DIFFERENCES), b" differences\n");
 }
 
-fn main() {
-    let fd = os::open_read(b"vectors");
-    if fd < 0 {
-        os::fail(b"vectors");
-        return;
-    }
-    let mut list = io::large_buffer();
-    let n = io::read_full(fd, &mut list);
-    libc::close(fd);
+fn main(rt: HostRuntime) -> io::Result<()> {
+    let mut list = [0u8; 65536];
+    let n = records::read_list(rt, "vectors", &mut list)?;
     let mut counts = [0u64; 23];
-    replay(&list[..n], &mut counts);
-    print_counts(&counts);
+    replay(rt, &list[..n], &mut counts);
+    print_counts(rt, &counts);
+    Ok(())
 }

@@ -117,24 +117,24 @@ fn read_determined(
 
 // ---- the texts
 
-fn print_field(n: usize) {
-    print_text(b" ");
-    print_number(n as u64);
+fn print_field(rt: HostRuntime, n: usize) {
+    print_text(rt, b" ");
+    print_number(rt, n as u64);
 }
 
-fn print_counts(c: Counts) {
-    print_text(b"read");
-    print_field(c.tokens);
-    print_field(c.actions);
-    print_field(c.operands);
-    print_field(c.levels);
-    print_field(c.labels);
+fn print_counts(rt: HostRuntime, c: Counts) {
+    print_text(rt, b"read");
+    print_field(rt, c.tokens);
+    print_field(rt, c.actions);
+    print_field(rt, c.operands);
+    print_field(rt, c.levels);
+    print_field(rt, c.labels);
 }
 
-fn print_answer(reading: Reading) {
+fn print_answer(rt: HostRuntime, reading: Reading) {
     match reading {
-        Reading::Read(c) => print_counts(c),
-        Reading::Refused(r) => print_refusal(r),
+        Reading::Read(c) => print_counts(rt, c),
+        Reading::Refused(r) => print_refusal(rt, r),
     }
 }
 
@@ -145,19 +145,19 @@ fn changed(word: u64) -> usize
     if word == 9 { 0 } else { 1 }
 }
 
-fn print_changed(a: u64, b: u64, c: u64, d: u64, e: u64) {
-    print_text(b"; changed");
-    print_field(changed(a) + changed(b) + changed(c) + changed(d) + changed(e));
-    print_text(b"; check ");
+fn print_changed(rt: HostRuntime, a: u64, b: u64, c: u64, d: u64, e: u64) {
+    print_text(rt, b"; changed");
+    print_field(rt, changed(a) + changed(b) + changed(c) + changed(d) + changed(e));
+    print_text(rt, b"; check ");
 }
 
-fn try_text(text: &[u8]) {
+fn try_text(rt: HostRuntime, text: &[u8]) {
     let mut tokens = [9u64; 16];
     let mut actions = [9u64; 4];
     let mut operands = [9u64; 4];
     let mut levels = [9u64; 8];
     let mut labels = [9u64; 4];
-    print_answer(read_determined(
+    print_answer(rt, read_determined(
         text,
         &mut tokens,
         &mut actions,
@@ -165,22 +165,22 @@ fn try_text(text: &[u8]) {
         &mut levels,
         &mut labels,
     ));
-    print_changed(tokens[0], actions[0], operands[0], levels[0], labels[0]);
-    print_answer(check(text, 16, 4, 4, 4, 4));
-    print_text(b"\n");
+    print_changed(rt, tokens[0], actions[0], operands[0], levels[0], labels[0]);
+    print_answer(rt, check(text, 16, 4, 4, 4, 4));
+    print_text(rt, b"\n");
 }
 
-fn main() {
-    try_text(b"a: Push 1\nTrace\n");
+fn main(rt: HostRuntime) {
+    try_text(rt, b"a: Push 1\nTrace\n");
     // undetermined at the top level, and in a block
-    try_text(b"CallFunction\n");
-    try_text(b"With {\nCallFunction\n}\n");
+    try_text(rt, b"CallFunction\n");
+    try_text(rt, b"With {\nCallFunction\n}\n");
     // 9 comes after reading's refusals
-    try_text(b"CallFunction\nPush 1, 2, 3, 4, 5, 6, 7\n");
-    try_text(b"CallFunction\nWith { Add }\n");
-    try_text(b"CallFunction\na: b: c: d: e:\n");
+    try_text(rt, b"CallFunction\nPush 1, 2, 3, 4, 5, 6, 7\n");
+    try_text(rt, b"CallFunction\nWith { Add }\n");
+    try_text(rt, b"CallFunction\na: b: c: d: e:\n");
     // larger held tables
-    try_text(&[b' '; 1025]);
-    try_text(&[b' '; 4097]);
-    try_text(&[b' '; 65537]);
+    try_text(rt, &[b' '; 1025]);
+    try_text(rt, &[b' '; 4097]);
+    try_text(rt, &[b' '; 65537]);
 }

@@ -7,6 +7,7 @@ ghost use Rattle.std.specs.Prelude.{◌<◌, ◌≤◌, length};
 
 use lexer::Lexing;
 use printing::{print_number, print_text};
+use std::io;
 
 fn wide(b: u8) -> u64
     ensures { result ≤ 255 }
@@ -63,12 +64,10 @@ fn same_tokens(list: &[u8], table: &[u64], n: usize) -> bool {
     if list.len() / 20 < n {
         return false;
     }
-    let mut i = 0;
-    while i < n {
+    for i in 0..n {
         if !same_token(list, i * 20, table[i]) {
             return false;
         }
-        i += 1;
     }
     true
 }
@@ -152,60 +151,55 @@ fn entries_of(answer: u64, count: u64) -> usize {
     0
 }
 
-fn print_verdict(texts: u64, good: u64) {
-    print_number(texts);
-    print_text(b" texts, ");
-    print_number(good);
-    print_text(b" as the Rust answered\n");
+fn print_verdict(rt: HostRuntime, texts: u64, good: u64) {
+    print_number(rt, texts);
+    print_text(rt, b" texts, ");
+    print_number(rt, good);
+    print_text(rt, b" as the Rust answered\n");
 }
 
-fn print_difference(text: u64) {
-    print_text(b"text ");
-    print_number(text);
-    print_text(b" differs\n");
+fn print_difference(rt: HostRuntime, text: u64) {
+    print_text(rt, b"text ");
+    print_number(rt, text);
+    print_text(rt, b" differs\n");
 }
 
 // 1 for a text that is as the Rust answered; one that is not is printed.
-fn counted(good: bool, text: u64) -> u64
+fn counted(rt: HostRuntime, good: bool, text: u64) -> u64
     ensures { result ≤ 1 }
 {
     if good {
         return 1;
     }
-    print_difference(text);
+    print_difference(rt, text);
     0
 }
 
-fn replay(list: &[u8]) {
+fn replay(rt: HostRuntime, list: &[u8]) {
     let mut at = 0;
     let mut texts: u64 = 0;
     let mut good: u64 = 0;
     while at < list.len() {
         let j = judge(list, at);
-        good += counted(j.good, texts);
+        good += counted(rt, j.good, texts);
         texts += 1;
         at = j.next;
     }
-    print_verdict(texts, good);
+    print_verdict(rt, texts, good);
 }
 
-fn replay_file(path: &[u8]) {
-    let fd = os::open_read(path);
-    if fd < 0 {
-        os::fail(path);
-        return;
-    }
-    let mut list = io::large_buffer();
-    let n = io::read_full(fd, &mut list);
-    libc::close(fd);
-    replay(&list[..n]);
+fn replay_file(rt: HostRuntime, path: &str) -> io::Result<()> {
+    let mut list = [0u8; 65536];
+    let n = records::read_list(rt, path, &mut list)?;
+    replay(rt, &list[..n]);
+    Ok(())
 }
 
-fn main() {
-    replay_file(b"lexing1");
-    replay_file(b"lexing2");
-    replay_file(b"lexing3");
-    replay_file(b"lexing4");
-    replay_file(b"lexing5");
-    replay_file(b"lexing6");
+fn main(rt: HostRuntime) -> io::Result<()> {
+    replay_file(rt, "lexing1")?;
+    replay_file(rt, "lexing2")?;
+    replay_file(rt, "lexing3")?;
+    replay_file(rt, "lexing4")?;
+    replay_file(rt, "lexing5")?;
+    replay_file(rt, "lexing6")
 }

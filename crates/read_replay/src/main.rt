@@ -5,6 +5,7 @@
 use as2_pcode::{Counts, Reading};
 use entries::{Level, Net, Operand};
 use records::{Cursor, expect, expect_i32, expect_signed, number_from, print_count};
+use std::io;
 use tokens::Token;
 use values::{PushValue, TokenValue};
 
@@ -25,10 +26,8 @@ fn expect_token(list: &[u8], c: Cursor, token: Token) -> Cursor {
 
 fn expect_tokens(list: &[u8], c: Cursor, words: &[u64], n: usize) -> Cursor {
     let mut c = c;
-    let mut i = 0;
-    while i < n {
+    for i in 0..n {
         c = expect_token(list, c, entries::token_in(words, i));
-        i += 1;
     }
     c
 }
@@ -89,11 +88,9 @@ fn expect_operands(
     n: usize,
 ) -> Cursor {
     let mut c = c;
-    let mut i = 0;
-    while i < n {
+    for i in 0..n {
         let operand = entries::operand_in(operands, i);
         c = expect_operand(list, c, text, words, operand);
-        i += 1;
     }
     c
 }
@@ -123,10 +120,8 @@ fn expect_level(list: &[u8], c: Cursor, level: Level) -> Cursor {
 
 fn expect_levels(list: &[u8], c: Cursor, levels: &[u64], n: usize) -> Cursor {
     let mut c = c;
-    let mut i = 0;
-    while i < n {
+    for i in 0..n {
         c = expect_level(list, c, entries::level_in(levels, i));
-        i += 1;
     }
     c
 }
@@ -135,10 +130,8 @@ fn expect_levels(list: &[u8], c: Cursor, levels: &[u64], n: usize) -> Cursor {
 
 fn expect_labels(list: &[u8], c: Cursor, labels: &[u64], n: usize) -> Cursor {
     let mut c = c;
-    let mut i = 0;
-    while i < n {
+    for i in 0..n {
         c = entry_records::expect_label(list, c, entries::label_in(labels, i));
-        i += 1;
     }
     c
 }
@@ -262,15 +255,15 @@ fn with(t: Totals, n: Counts, c: Cursor) -> Totals {
 }
 
 // Only the first difference is told.
-fn count(path: &[u8], reading: Reading, c: Cursor, t: Totals) -> Totals {
+fn count(rt: HostRuntime, path: &str, reading: Reading, c: Cursor, t: Totals) -> Totals {
     if t.differences == 0 {
-        records::print_difference(t.texts, path, c.wrong);
+        records::print_difference(rt, t.texts, path.as_bytes(), c.wrong);
     }
     with(t, counts_of(reading), c)
 }
 
 // No text of the list is longer than 1,000 bytes; a level takes two words.
-fn hold(list: &[u8], path: &[u8], stop: usize, next: usize, text: &[u8], t: Totals) -> Totals {
+fn hold(rt: HostRuntime, list: &[u8], path: &str, stop: usize, next: usize, text: &[u8], t: Totals) -> Totals {
     let mut words = [0u64; 1024];
     let mut acted = [0u64; 1024];
     let mut operands = [0u64; 1024];
@@ -295,54 +288,49 @@ fn hold(list: &[u8], path: &[u8], stop: usize, next: usize, text: &[u8], t: Tota
         &labels,
         reading,
     );
-    count(path, reading, records::ended(told, next), t)
+    count(rt, path, reading, records::ended(told, next), t)
 }
 
-fn replay(list: &[u8], path: &[u8], t: Totals) -> Totals {
+fn replay(rt: HostRuntime, list: &[u8], path: &str, t: Totals) -> Totals {
     let mut t = t;
     let mut at = 0;
     while at < list.len() {
         let r = records::record_at(list, at);
         let start = r.start;
         let stop = r.stop;
-        t = hold(list, path, stop, r.next, &list[start..stop], t);
+        t = hold(rt, list, path, stop, r.next, &list[start..stop], t);
         at = r.next;
     }
     t
 }
 
-fn replay_file(path: &[u8], t: Totals) -> Totals {
-    let fd = os::open_read(path);
-    if fd < 0 {
-        os::fail(path);
-        return t;
-    }
-    let mut list = io::large_buffer();
-    let n = io::read_full(fd, &mut list);
-    libc::close(fd);
-    replay(&list[..n], path, t)
+fn replay_file(rt: HostRuntime, path: &str, t: Totals) -> io::Result<Totals> {
+    let mut list = [0u8; 65536];
+    let n = records::read_list(rt, path, &mut list)?;
+    Ok(replay(rt, &list[..n], path, t))
 }
 
-fn print_totals(t: Totals) {
-    print_count(t.texts, b" texts, ");
-    print_count(t.read, b" read\n");
-    print_count(t.tokens, b" tokens, ");
-    print_count(t.actions, b" actions, ");
-    print_count(t.operands, b" operands, ");
-    print_count(t.levels, b" levels, ");
-    print_count(t.labels, b" labels\n");
-    print_count(t.long, b" numbers Long\n");
-    print_count(t.differences, b" differences\n");
+fn print_totals(rt: HostRuntime, t: Totals) {
+    print_count(rt, t.texts, b" texts, ");
+    print_count(rt, t.read, b" read\n");
+    print_count(rt, t.tokens, b" tokens, ");
+    print_count(rt, t.actions, b" actions, ");
+    print_count(rt, t.operands, b" operands, ");
+    print_count(rt, t.levels, b" levels, ");
+    print_count(rt, t.labels, b" labels\n");
+    print_count(rt, t.long, b" numbers Long\n");
+    print_count(rt, t.differences, b" differences\n");
 }
 
-fn main() {
+fn main(rt: HostRuntime) -> io::Result<()> {
     let t = NOTHING_YET;
-    let t = replay_file(b"reading1", t);
-    let t = replay_file(b"reading2", t);
-    let t = replay_file(b"reading3", t);
-    let t = replay_file(b"reading4", t);
-    let t = replay_file(b"reading5", t);
-    let t = replay_file(b"reading6", t);
-    let t = replay_file(b"reading7", t);
-    print_totals(t);
+    let t = replay_file(rt, "reading1", t)?;
+    let t = replay_file(rt, "reading2", t)?;
+    let t = replay_file(rt, "reading3", t)?;
+    let t = replay_file(rt, "reading4", t)?;
+    let t = replay_file(rt, "reading5", t)?;
+    let t = replay_file(rt, "reading6", t)?;
+    let t = replay_file(rt, "reading7", t)?;
+    print_totals(rt, t);
+    Ok(())
 }

@@ -7,6 +7,7 @@ use as2_pcode::Reading;
 use entry_records::{Entries, Totals};
 use fronts::Lent;
 use records::{Cursor, number_from};
+use std::io;
 
 // What the tables are lent with, and where the list goes on.
 #[derive(Clone, Copy)]
@@ -73,19 +74,18 @@ fn expect_answer(
 }
 
 // One text more: a difference is printed as it is found.
-fn count(
-    words: &[u64; 2048],
+fn count(rt: HostRuntime, words: &[u64; 2048],
     operands: &[u64; 2048],
     reading: Reading,
     c: Cursor,
     t: Totals,
 ) -> Totals {
-    records::print_difference(t.texts, b"vectors", c.wrong);
+    records::print_difference(rt, t.texts, b"vectors", c.wrong);
     entry_records::add(t, entries_of(reading), words, operands, c)
 }
 
 // No call of the list has a table of more than 2,048 places.
-fn hold(list: &[u8], stop: usize, next: usize, text: &[u8], t: Totals) -> Totals {
+fn hold(rt: HostRuntime, list: &[u8], stop: usize, next: usize, text: &[u8], t: Totals) -> Totals {
     let mut words = [0u64; 2048];
     let mut acted = [0u64; 2048];
     let mut operands = [0u64; 2048];
@@ -113,30 +113,25 @@ fn hold(list: &[u8], stop: usize, next: usize, text: &[u8], t: Totals) -> Totals
         &labels,
         reading,
     );
-    count(&words, &operands, reading, records::ended(told, next), t)
+    count(rt, &words, &operands, reading, records::ended(told, next), t)
 }
 
-fn replay(list: &[u8]) -> Totals {
+fn replay(rt: HostRuntime, list: &[u8]) -> Totals {
     let mut t = entry_records::NOTHING_YET;
     let mut at = 0;
     while at < list.len() {
         let r = records::record_at(list, at);
         let start = r.start;
         let stop = r.stop;
-        t = hold(list, stop, r.next, &list[start..stop], t);
+        t = hold(rt, list, stop, r.next, &list[start..stop], t);
         at = r.next;
     }
     t
 }
 
-fn main() {
-    let fd = os::open_read(b"vectors");
-    if fd < 0 {
-        os::fail(b"vectors");
-        return;
-    }
-    let mut list = io::large_buffer();
-    let n = io::read_full(fd, &mut list);
-    libc::close(fd);
-    entry_records::print_totals(replay(&list[..n]));
+fn main(rt: HostRuntime) -> io::Result<()> {
+    let mut list = [0u8; 65536];
+    let n = records::read_list(rt, "vectors", &mut list)?;
+    entry_records::print_totals(rt, replay(rt, &list[..n]));
+    Ok(())
 }

@@ -3,10 +3,12 @@
 // expected, in the order in which the program asks for it. A number below 254 is a byte; 254 stands before two bytes, 255
 // before eight, low byte first. A signed number is written as twice its size, less one if it is negative.
 #![tactic(auto)]
-
-ghost use Rattle.std.specs.Prelude.{◌≡◌, ◌<◌, ◌≤◌, length};
+ghost use Rattle.std.specs.Prelude.{◌≡◌, ◌<◌, ◌≤◌, IfOk, length};
 
 use printing::{print_number, print_text};
+use std::fs::File;
+use std::io;
+use std::io::Read;
 use tokens::TokenKind;
 
 // ---- numbers
@@ -180,10 +182,8 @@ pub fn expect_i32(list: &[u8], c: Cursor, n: i32) -> Cursor {
 // How many bytes, and each of them.
 pub fn expect_bytes(list: &[u8], c: Cursor, bytes: &[u8]) -> Cursor {
     let mut c = expect(list, c, bytes.len() as u64);
-    let mut i = 0;
-    while i < bytes.len() {
-        c = expect(list, c, wide(bytes[i]));
-        i += 1;
+    for b in bytes {
+        c = expect(list, c, wide(*b));
     }
     c
 }
@@ -261,6 +261,22 @@ pub fn ended(c: Cursor, next: usize) -> Cursor {
         return c;
     }
     differing(c, next)
+}
+
+// The first bytes of a file, as many as the list has room for.
+pub fn read_list(rt: HostRuntime, path: &str, list: &mut [u8]) -> io::Result<usize>
+    ensures { IfOk result (λ n. n ≤ length list.new) }
+{
+    let mut file = File::open(&rt, path)?;
+    let mut n = 0;
+    while n < list.len() {
+        let more = file.read(&mut list[n..])?;
+        if more == 0 {
+            break;
+        }
+        n += more;
+    }
+    Ok(n)
 }
 
 // ---- what the programs print

@@ -1,108 +1,109 @@
 // Values at their limits. First the texts on standard input, a line for each token with its value, and of an Integer token
 // its u8, u16 and i32; then tokens that no text yields, and texts of 65,536 and 65,537 bytes.
 #![tactic(auto)]
+ghost use Rattle.std.specs.Prelude.{◌≤◌, IfOk, length};
+
 use lexer::Lexing;
-use libc::STDIN_FILENO;
 use numbers::{Integer, Natural};
 use printing::{print_bits, print_number, print_refusal, print_signed, print_span, print_text};
+use std::io;
+use std::io::Read;
 use tokens::{Span, Token, TokenKind};
 use values::{PushValue, TokenValue};
 
-fn print_case(v: PushValue) {
+fn print_case(rt: HostRuntime, v: PushValue) {
     match v {
-        PushValue::Null => print_text(b"null"),
-        PushValue::Undefined => print_text(b"undefined"),
-        PushValue::String(_) => print_text(b"string "),
-        PushValue::Integer(_) => print_text(b"integer "),
-        PushValue::Float(_) => print_text(b"double "),
-        PushValue::True => print_text(b"true"),
-        PushValue::False => print_text(b"false"),
-        PushValue::Register(_) => print_text(b"register "),
-        PushValue::Constant(_) => print_text(b"constant "),
-        PushValue::Long(_) => print_text(b"long "),
+        PushValue::Null => print_text(rt, b"null"),
+        PushValue::Undefined => print_text(rt, b"undefined"),
+        PushValue::String(_) => print_text(rt, b"string "),
+        PushValue::Integer(_) => print_text(rt, b"integer "),
+        PushValue::Float(_) => print_text(rt, b"double "),
+        PushValue::True => print_text(rt, b"true"),
+        PushValue::False => print_text(rt, b"false"),
+        PushValue::Register(_) => print_text(rt, b"register "),
+        PushValue::Constant(_) => print_text(rt, b"constant "),
+        PushValue::Long(_) => print_text(rt, b"long "),
     }
 }
 
-fn print_held(v: PushValue) {
+fn print_held(rt: HostRuntime, v: PushValue) {
     match v {
-        PushValue::String(s) => print_span(s),
-        PushValue::Integer(n) => print_signed(n),
-        PushValue::Float(x) => print_bits(values::bits_of(x)),
-        PushValue::Register(n) => print_number(n as u64),
-        PushValue::Constant(n) => print_number(n as u64),
-        PushValue::Long(s) => print_span(s),
+        PushValue::String(s) => print_span(rt, s),
+        PushValue::Integer(n) => print_signed(rt, n),
+        PushValue::Float(x) => print_bits(rt, values::bits_of(x)),
+        PushValue::Register(n) => print_number(rt, n as u64),
+        PushValue::Constant(n) => print_number(rt, n as u64),
+        PushValue::Long(s) => print_span(rt, s),
         _ => {}
     }
 }
 
-fn print_value(answer: TokenValue) {
+fn print_value(rt: HostRuntime, answer: TokenValue) {
     match answer {
         TokenValue::Is(v) => {
-            print_case(v);
-            print_held(v);
+            print_case(rt, v);
+            print_held(rt, v);
         }
-        TokenValue::Refused(r) => print_refusal(r),
+        TokenValue::Refused(r) => print_refusal(rt, r),
     }
 }
 
-fn print_natural(n: Natural) {
+fn print_natural(rt: HostRuntime, n: Natural) {
     match n {
-        Natural::Is(k) => print_number(k),
-        Natural::Nothing => print_text(b"none"),
+        Natural::Is(k) => print_number(rt, k),
+        Natural::Nothing => print_text(rt, b"none"),
     }
 }
 
-fn print_integer(n: Integer) {
+fn print_integer(rt: HostRuntime, n: Integer) {
     match n {
-        Integer::Is(k) => print_signed(k),
-        Integer::Nothing => print_text(b"none"),
+        Integer::Is(k) => print_signed(rt, k),
+        Integer::Nothing => print_text(rt, b"none"),
     }
 }
 
-fn print_widths(text: &[u8], token: Token) {
-    print_text(b", u8 ");
-    print_natural(values::u8_of(text, token));
-    print_text(b", u16 ");
-    print_natural(values::u16_of(text, token));
-    print_text(b", i32 ");
-    print_integer(values::i32_of(text, token));
+fn print_widths(rt: HostRuntime, text: &[u8], token: Token) {
+    print_text(rt, b", u8 ");
+    print_natural(rt, values::u8_of(text, token));
+    print_text(rt, b", u16 ");
+    print_natural(rt, values::u16_of(text, token));
+    print_text(rt, b", i32 ");
+    print_integer(rt, values::i32_of(text, token));
 }
 
-fn print_token(text: &[u8], token: Token) {
-    print_text(tokens::raw_text(text, token));
-    print_text(b" is ");
-    print_value(values::value(text, token));
+fn print_token(rt: HostRuntime, text: &[u8], token: Token) {
+    print_text(rt, tokens::raw_text(text, token));
+    print_text(rt, b" is ");
+    print_value(rt, values::value(text, token));
     let kind = token.kind;
     if let TokenKind::Integer = kind {
-        print_widths(text, token);
+        print_widths(rt, text, token);
     }
-    print_text(b"\n");
+    print_text(rt, b"\n");
 }
 
-fn print_unless_newline(text: &[u8], word: u64) {
+fn print_unless_newline(rt: HostRuntime, text: &[u8], word: u64) {
     let token = tokens::token_of(word);
     let kind = token.kind;
     match kind {
         TokenKind::Newline => {}
-        _ => print_token(text, token),
+        _ => print_token(rt, text, token),
     }
 }
 
-fn print_tokens(text: &[u8], table: &[u64], n: usize) {
-    let mut i = 0;
-    while i < n {
+fn print_tokens(rt: HostRuntime, text: &[u8], table: &[u64], n: usize) {
+    for i in 0..n {
         if i < table.len() {
-            print_unless_newline(text, table[i]);
+            print_unless_newline(rt, text, table[i]);
         }
-        i += 1;
     }
 }
 
-fn print_all(text: &[u8]) {
+fn print_all(rt: HostRuntime, text: &[u8]) {
     let mut table = [0u64; 4096];
     match lexer::lex(text, &mut table) {
-        Lexing::Tokens(n) => print_tokens(text, &table, n),
-        Lexing::Refused(r) => print_refusal(r),
+        Lexing::Tokens(n) => print_tokens(rt, text, &table, n),
+        Lexing::Refused(r) => print_refusal(rt, r),
     }
 }
 
@@ -188,7 +189,7 @@ const ODD: [Odd; 14] = [
     },
 ];
 
-fn print_odd(i: usize) {
+fn print_odd(rt: HostRuntime, i: usize) {
     if 14 <= i {
         return;
     }
@@ -203,40 +204,55 @@ fn print_odd(i: usize) {
         span: raw,
         raw,
     };
-    print_span(raw);
-    print_text(b": ");
-    print_token(b"+5 .5 1.5 5 inf nan", token);
+    print_span(rt, raw);
+    print_text(rt, b": ");
+    print_token(rt, b"+5 .5 1.5 5 inf nan", token);
 }
 
-fn print_odds() {
-    let mut i = 0;
-    while i < 14 {
-        print_odd(i);
-        i += 1;
+fn print_odds(rt: HostRuntime) {
+    for i in 0..14 {
+        print_odd(rt, i);
     }
 }
 
 // ---- the largest text, and one byte more
 
-fn print_true_in(text: &[u8]) {
+fn print_true_in(rt: HostRuntime, text: &[u8]) {
     let raw = Span { start: 0, end: 4 };
     let token = Token {
         kind: TokenKind::True,
         span: raw,
         raw,
     };
-    print_number(text.len() as u64);
-    print_text(b" bytes: ");
-    print_value(values::value(text, token));
-    print_text(b"\n");
+    print_number(rt, text.len() as u64);
+    print_text(rt, b" bytes: ");
+    print_value(rt, values::value(text, token));
+    print_text(rt, b"\n");
 }
 
-fn main() {
+// The first bytes of standard input, as many as the text has room for.
+fn read_full(rt: HostRuntime, text: &mut [u8]) -> io::Result<usize>
+    ensures { IfOk result (λ n. n ≤ length text.new) }
+{
+    let mut input = rt.stdin();
+    let mut n = 0;
+    while n < text.len() {
+        let more = input.read(&mut text[n..])?;
+        if more == 0 {
+            break;
+        }
+        n += more;
+    }
+    Ok(n)
+}
+
+fn main(rt: HostRuntime) -> io::Result<()> {
     let mut input = [0u8; 4096];
-    let n = io::read_full(STDIN_FILENO, &mut input);
-    print_all(&input[..n]);
-    print_odds();
+    let n = read_full(rt, &mut input)?;
+    print_all(rt, &input[..n]);
+    print_odds(rt);
     let text = [32u8; 65537];
-    print_true_in(&text[..65536]);
-    print_true_in(&text);
+    print_true_in(rt, &text[..65536]);
+    print_true_in(rt, &text);
+    Ok(())
 }

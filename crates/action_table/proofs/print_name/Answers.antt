@@ -1,0 +1,8 @@
+-- `LETTERS` are the letters of all names.
+use Rattle.std.proofs.Common.{refl, flatten}
+use Rattle.words.specs.Spellings.{all_letters, bytes, spellings}
+use Rattle.action_table.proofs.print_name.Goals as goal
+
+pub spelling-requires : goal.spelling-requires
+unfolding all_letters bytes spellings flatten
+spelling-requires c = refl
