@@ -2,6 +2,7 @@
 // closing quote (document 02, §1): a line for each, with the text and what reading answers. Its `stdout` is typed from the
 // documents.
 #![tactic(auto)]
+
 use as2_pcode::{Counts, Reading};
 use fronts::{Lent, least};
 use numbers::Natural;
@@ -172,7 +173,10 @@ fn print_label(rt: HostRuntime, text: &[u8], words: &[u64], labels: &[u64], i: u
     let label = entries::label_in(labels, i);
     print_named(rt, b"; label ", label.level);
     print_text(rt, b" ");
-    print_bytes(rt, tokens::raw_text(text, entries::token_in(words, label.token)));
+    print_bytes(
+        rt,
+        tokens::raw_text(text, entries::token_in(words, label.token)),
+    );
     print_named(rt, b" ", label.position);
 }
 
@@ -211,7 +215,9 @@ fn entries_of(rt: HostRuntime, reading: Reading) -> Counts {
     }
 }
 
-fn answer(rt: HostRuntime, text: &[u8],
+fn answer(
+    rt: HostRuntime,
+    text: &[u8],
     words: &[u64; 1024],
     operands: &[u64; 1024],
     levels: &[u64; 2048],
@@ -249,14 +255,17 @@ fn read_large(rt: HostRuntime, text: &[u8]) {
     let mut operands = [0u64; 1024];
     let mut levels = [0u64; 2048];
     let mut labels = [0u64; 1024];
-    entries_of(rt, fronts::read_whole(
-        text,
-        &mut words,
-        &mut actions,
-        &mut operands,
-        &mut levels,
-        &mut labels,
-    ));
+    entries_of(
+        rt,
+        fronts::read_whole(
+            text,
+            &mut words,
+            &mut actions,
+            &mut operands,
+            &mut levels,
+            &mut labels,
+        ),
+    );
     print_text(rt, b"\n");
 }
 
@@ -394,26 +403,36 @@ fn show_tables(rt: HostRuntime, text: &[u8], p: Lent) {
     let mut operands = [MARK; 33];
     let mut levels = [MARK; 33];
     let mut labels = [MARK; 33];
-    let n = entries_of(rt, fronts::read_fronts(
-        text,
-        p,
-        &mut words,
-        &mut actions,
-        &mut operands,
-        &mut levels,
-        &mut labels,
-    ));
-    print_kept(rt, are_marked(n, &words, &actions, &operands, &levels, &labels));
+    let n = entries_of(
+        rt,
+        fronts::read_fronts(
+            text,
+            p,
+            &mut words,
+            &mut actions,
+            &mut operands,
+            &mut levels,
+            &mut labels,
+        ),
+    );
+    print_kept(
+        rt,
+        are_marked(n, &words, &actions, &operands, &levels, &labels),
+    );
 }
 
-fn show_words(rt: HostRuntime, text: &[u8],
+fn show_words(
+    rt: HostRuntime,
+    text: &[u8],
     tokens: usize,
     actions: usize,
     operands: usize,
     levels: usize,
     labels: usize,
 ) {
-    show_tables(rt, text,
+    show_tables(
+        rt,
+        text,
         Lent {
             tokens,
             actions,
@@ -491,11 +510,21 @@ fn unclosed(rt: HostRuntime) {
     show(rt, b"Push \"a\\\\\"\n");
     show(rt, b"ConstantPool \"a\", \"b\", \"cd\nPush constant2\n");
     show(rt, b"Push \"ab\nWith {\nPush \"cd\n}\nPush \"e\"\n");
-    show(rt, b"DefineFunction \"f\", 0 {\nPush 1, \"ab\nTrace\nGetUrl \"u\", \"vw\n}\nPush \"e\"\n");
+    show(
+        rt,
+        b"DefineFunction \"f\", 0 {\nPush 1, \"ab\nTrace\nGetUrl \"u\", \"vw\n}\nPush \"e\"\n",
+    );
 }
 
 // Rows 5 and 8: the example of `pcode-list` has 19 tokens, 4 actions, 3 operands, 2 levels of two words each, and 2 labels.
-fn example(rt: HostRuntime, tokens: usize, actions: usize, operands: usize, levels: usize, labels: usize) {
+fn example(
+    rt: HostRuntime,
+    tokens: usize,
+    actions: usize,
+    operands: usize,
+    levels: usize,
+    labels: usize,
+) {
     let text = b"start: Push \"ok\", 3\nWith {\nTrace\ndone: }\nJump start\n";
     show_words(rt, text, tokens, actions, operands, levels, labels);
 }

@@ -1,6 +1,7 @@
 // Texts read into a slice of two label entries, which hold a mark before: what reading answers, both entries, and the label
 // of level 0 that has a name.
 #![tactic(auto)]
+
 use as2_pcode::{Counts, Reading};
 use entries::Label;
 use entry_reading::read_entries;
@@ -50,7 +51,9 @@ fn print_answer(rt: HostRuntime, reading: Reading, first: Label, second: Label, 
 }
 
 // `lexed` holds the tokens that reading finds too: a table that is lent as `&mut` is given up.
-fn read_two(rt: HostRuntime, text: &[u8],
+fn read_two(
+    rt: HostRuntime,
+    text: &[u8],
     lexed: &[u64],
     name: &[u8],
     tokens: &mut [u64],
@@ -79,7 +82,9 @@ fn try_text(rt: HostRuntime, text: &[u8], name: &[u8]) {
     let mut actions = [0u64; 64];
     let mut operands = [0u64; 64];
     let mut levels = [0u64; 64];
-    read_two(rt, text,
+    read_two(
+        rt,
+        text,
         &lexed,
         name,
         &mut tokens,

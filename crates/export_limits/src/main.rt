@@ -2,6 +2,7 @@
 // greatest length, the largest text and output, and which fault of several counts. A line for each text: what it is, and how many bytes
 // export writes and two of them where a field stands; or the refusal. Its `stdout` is printed by `compare/vectors limits`.
 #![tactic(auto)]
+
 use action_records::Style;
 use export::Exporting;
 use export_fronts::{MARK, MARK_BYTE, are_marked, export_fronts, front};
@@ -131,7 +132,14 @@ fn try_front(rt: HostRuntime, text: &[u8; 65537], n: usize, room: usize, field: 
 }
 
 // Actions of so many bytes between two pieces of text.
-fn try_between(rt: HostRuntime, name: &[u8], before: &[u8], size: usize, behind: &[u8], field: usize) {
+fn try_between(
+    rt: HostRuntime,
+    name: &[u8],
+    before: &[u8],
+    size: usize,
+    behind: &[u8],
+    field: usize,
+) {
     let mut text = [0u8; 65537];
     let at = put(&mut text, 0, before);
     let at = put_actions(&mut text, at, size);
@@ -151,11 +159,15 @@ fn try_body(rt: HostRuntime, name: &[u8], before: &[u8], field: usize) {
 
 fn bodies(rt: HostRuntime) {
     try_body(rt, b"With, its body", b"With {\n", 3);
-    try_body(rt, b"DefineFunction, its body",
+    try_body(
+        rt,
+        b"DefineFunction, its body",
         b"DefineFunction \"f\", 0 {\n",
         7,
     );
-    try_body(rt, b"DefineFunction2, its body",
+    try_body(
+        rt,
+        b"DefineFunction2, its body",
         b"DefineFunction2 \"f\", 0, 0, true, true, true, true, true, true, true, true, true {\n",
         10,
     );
@@ -167,19 +179,25 @@ fn bodies(rt: HostRuntime) {
 // An outer body is the inner one and the five bytes of its record.
 fn nested(rt: HostRuntime) {
     let before = b"With {\nWith {\n";
-    try_between(rt, b"With in With, the outer body, 65535 bytes: ",
+    try_between(
+        rt,
+        b"With in With, the outer body, 65535 bytes: ",
         before,
         65530,
         b"}\n}\n",
         3,
     );
-    try_between(rt, b"With in With, the inner body, 65530 bytes: ",
+    try_between(
+        rt,
+        b"With in With, the inner body, 65530 bytes: ",
         before,
         65530,
         b"}\n}\n",
         8,
     );
-    try_between(rt, b"With in With, the outer body, 65536 bytes: ",
+    try_between(
+        rt,
+        b"With in With, the outer body, 65536 bytes: ",
         before,
         65531,
         b"}\n}\n",
@@ -190,7 +208,14 @@ fn nested(rt: HostRuntime) {
 // ---- offsets: from the end of the jump's record, which has five bytes
 
 // `size` is that of the actions between which make the greatest offset.
-fn try_forward(rt: HostRuntime, name: &[u8], before: &[u8], size: usize, behind: &[u8], field: usize) {
+fn try_forward(
+    rt: HostRuntime,
+    name: &[u8],
+    before: &[u8],
+    size: usize,
+    behind: &[u8],
+    field: usize,
+) {
     let more = std::num::wrapping_add_usize(size, 1);
     print_text(rt, name);
     try_between(rt, b", an offset of 32767: ", before, size, behind, field);
@@ -212,14 +237,29 @@ fn offsets(rt: HostRuntime) {
     try_back(rt, b"Jump", b"a:\n", 32763, b"Jump a\n");
     try_forward(rt, b"If", b"If a\n", 32767, b"a:\n", 3);
     try_back(rt, b"If", b"a:\n", 32763, b"If a\n");
-    try_forward(rt, b"Jump in a body", b"With {\nJump a\n", 32767, b"a: }\n", 8);
-    try_forward(rt, b"Jump over a body",
+    try_forward(
+        rt,
+        b"Jump in a body",
+        b"With {\nJump a\n",
+        32767,
+        b"a: }\n",
+        8,
+    );
+    try_forward(
+        rt,
+        b"Jump over a body",
         b"Jump a\nWith {\n",
         32762,
         b"}\na:\n",
         3,
     );
-    try_back(rt, b"Jump over a body", b"a: With {\n", 32758, b"}\nJump a\n");
+    try_back(
+        rt,
+        b"Jump over a body",
+        b"a: With {\n",
+        32758,
+        b"}\nJump a\n",
+    );
 }
 
 // ---- the length of a record
@@ -251,31 +291,41 @@ fn lengths(rt: HostRuntime) {
 // ---- which fault counts: a body that is too long is found behind any other fault; of two such the first in written order
 
 fn faults(rt: HostRuntime) {
-    try_between(rt, b"a body too long, then a Jump to no label: ",
+    try_between(
+        rt,
+        b"a body too long, then a Jump to no label: ",
         b"With {\n",
         65536,
         b"}\nJump a\n",
         0,
     );
-    try_between(rt, b"a body too long, then a Long number: ",
+    try_between(
+        rt,
+        b"a body too long, then a Long number: ",
         b"With {\n",
         65536,
         b"}\nPush 9007199254740993\n",
         0,
     );
-    try_between(rt, b"an Add, then a body too long: ",
+    try_between(
+        rt,
+        b"an Add, then a body too long: ",
         b"Add\nWith {\n",
         65536,
         b"}\n",
         0,
     );
-    try_between(rt, b"a Jump over an Add and a body too long: ",
+    try_between(
+        rt,
+        b"a Jump over an Add and a body too long: ",
         b"Jump a\nAdd\nWith {\n",
         65536,
         b"}\na:\n",
         0,
     );
-    try_between(rt, b"a Jump back over an Add and a body too long: ",
+    try_between(
+        rt,
+        b"a Jump back over an Add and a body too long: ",
         b"a: Add\nWith {\n",
         65536,
         b"}\nJump a\n",

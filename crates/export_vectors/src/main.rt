@@ -5,6 +5,7 @@
 // A refusal must leave the tables and the output as they were. Of an accepted text the tables must be those of `read`, and what
 // lies behind the bytes as it was; and it is exported again with the output and with the tables exactly full, and one short.
 #![tactic(auto)]
+
 ghost use Rattle.std.specs.Prelude.{◌≤◌};
 
 use action_records::Style;
@@ -298,7 +299,14 @@ fn is_refused(
 
 // ---- one short
 
-fn hold_short_output(rt: HostRuntime, text: &[u8], lent: Lent, style: Style, n: usize, counts: &mut [u64; 23]) {
+fn hold_short_output(
+    rt: HostRuntime,
+    text: &[u8],
+    lent: Lent,
+    style: Style,
+    n: usize,
+    counts: &mut [u64; 23],
+) {
     if n == 0 {
         return;
     }
@@ -348,7 +356,9 @@ fn words_in(lent: Lent, table: usize) -> usize {
 }
 
 // A table that no entry is for cannot be short.
-fn hold_short_table(rt: HostRuntime, text: &[u8],
+fn hold_short_table(
+    rt: HostRuntime,
+    text: &[u8],
     full: Lent,
     room: usize,
     style: Style,
@@ -379,7 +389,14 @@ fn is_short(
     is_refused(text, short, room, style, 8, table - 1)
 }
 
-fn hold_short_tables(rt: HostRuntime, text: &[u8], full: Lent, room: usize, style: Style, counts: &mut [u64; 23]) {
+fn hold_short_tables(
+    rt: HostRuntime,
+    text: &[u8],
+    full: Lent,
+    room: usize,
+    style: Style,
+    counts: &mut [u64; 23],
+) {
     hold_short_table(rt, text, full, room, style, 0, counts);
     hold_short_table(rt, text, full, room, style, 1, counts);
     hold_short_table(rt, text, full, room, style, 2, counts);
@@ -390,7 +407,9 @@ fn hold_short_tables(rt: HostRuntime, text: &[u8], full: Lent, room: usize, styl
 // ---- a text
 
 // Tables and bytes that export wrote, held to `read` and to export into other places.
-fn hold_written(rt: HostRuntime, text: &[u8],
+fn hold_written(
+    rt: HostRuntime,
+    text: &[u8],
     call: Call,
     c: Counts,
     n: usize,
@@ -425,7 +444,9 @@ fn hold_written(rt: HostRuntime, text: &[u8],
     add(counts, BYTES, n as u64);
 }
 
-fn hold_told(rt: HostRuntime, text: &[u8],
+fn hold_told(
+    rt: HostRuntime,
+    text: &[u8],
     call: Call,
     told: Exporting,
     tokens: &[u64; 4096],
@@ -437,7 +458,8 @@ fn hold_told(rt: HostRuntime, text: &[u8],
     counts: &mut [u64; 23],
 ) {
     match told {
-        Exporting::Written(c, n) => hold_written(rt, text, call, c, n, tokens, actions, operands, levels, labels, out, counts,
+        Exporting::Written(c, n) => hold_written(
+            rt, text, call, c, n, tokens, actions, operands, levels, labels, out, counts,
         ),
         Exporting::Refused(_) => {
             let kept = are_marked(tokens, actions, operands, levels, labels, out);
@@ -457,7 +479,9 @@ fn expect_answer(list: &[u8], c: Cursor, told: Exporting, out: &[u8; 4096]) -> C
 }
 
 // The answer held to the list.
-fn hold_answer(rt: HostRuntime, list: &[u8],
+fn hold_answer(
+    rt: HostRuntime,
+    list: &[u8],
     at: usize,
     next: usize,
     told: Exporting,
@@ -473,7 +497,14 @@ fn hold_answer(rt: HostRuntime, list: &[u8],
     add(counts, least(answer_number(told) as usize, 15), 1);
 }
 
-fn hold(rt: HostRuntime, list: &[u8], stop: usize, next: usize, text: &[u8], counts: &mut [u64; 23]) {
+fn hold(
+    rt: HostRuntime,
+    list: &[u8],
+    stop: usize,
+    next: usize,
+    text: &[u8],
+    counts: &mut [u64; 23],
+) {
     let mut tokens = [MARK; 4096];
     let mut actions = [MARK; 4096];
     let mut operands = [MARK; 4096];
@@ -496,7 +527,8 @@ fn hold(rt: HostRuntime, list: &[u8], stop: usize, next: usize, text: &[u8], cou
         &mut out,
     );
     hold_answer(rt, list, call.next, next, told, &out, counts);
-    hold_told(rt, text, call, told, &tokens, &actions, &operands, &levels, &labels, &out, counts,
+    hold_told(
+        rt, text, call, told, &tokens, &actions, &operands, &levels, &labels, &out, counts,
     );
     add(counts, CALLS, 1);
 }
@@ -537,12 +569,22 @@ fn print_counts(rt: HostRuntime, counts: &[u64; 23]) {
     print_refusals(rt, counts);
     print_text(rt, b"\n");
     records::print_count(rt, count_of(counts, BYTES), b" bytes compared\n");
-    records::print_count(rt, count_of(counts, FULL_OUTPUTS), b" outputs exactly full, ");
+    records::print_count(
+        rt,
+        count_of(counts, FULL_OUTPUTS),
+        b" outputs exactly full, ",
+    );
     records::print_count(rt, count_of(counts, SHORT_OUTPUTS), b" one byte short\n");
-    records::print_count(rt, count_of(counts, FULL_TABLES),
+    records::print_count(
+        rt,
+        count_of(counts, FULL_TABLES),
         b" times all tables exactly full, ",
     );
-    records::print_count(rt, count_of(counts, SHORT_TABLES), b" tables one place short\n");
+    records::print_count(
+        rt,
+        count_of(counts, SHORT_TABLES),
+        b" tables one place short\n",
+    );
     records::print_count(rt, count_of(counts, DIFFERENCES), b" differences\n");
 }
 

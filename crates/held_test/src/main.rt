@@ -2,6 +2,7 @@
 // read if the net of its top level is determined, and else refused by 9. A line for each text: the answer, how many lent tables
 // changed, and what `check` answers for tables of as many places.
 #![tactic(auto)]
+
 ghost use Rattle.std.specs.Prelude.{◌≡◌, ◌≤◌, length};
 ghost use Rattle.entries.specs.Entries.{level_in};
 ghost use Rattle.handover.specs.Reading.{places, lent};
@@ -147,7 +148,10 @@ fn changed(word: u64) -> usize
 
 fn print_changed(rt: HostRuntime, a: u64, b: u64, c: u64, d: u64, e: u64) {
     print_text(rt, b"; changed");
-    print_field(rt, changed(a) + changed(b) + changed(c) + changed(d) + changed(e));
+    print_field(
+        rt,
+        changed(a) + changed(b) + changed(c) + changed(d) + changed(e),
+    );
     print_text(rt, b"; check ");
 }
 
@@ -157,14 +161,17 @@ fn try_text(rt: HostRuntime, text: &[u8]) {
     let mut operands = [9u64; 4];
     let mut levels = [9u64; 8];
     let mut labels = [9u64; 4];
-    print_answer(rt, read_determined(
-        text,
-        &mut tokens,
-        &mut actions,
-        &mut operands,
-        &mut levels,
-        &mut labels,
-    ));
+    print_answer(
+        rt,
+        read_determined(
+            text,
+            &mut tokens,
+            &mut actions,
+            &mut operands,
+            &mut levels,
+            &mut labels,
+        ),
+    );
     print_changed(rt, tokens[0], actions[0], operands[0], levels[0], labels[0]);
     print_answer(rt, check(text, 16, 4, 4, 4, 4));
     print_text(rt, b"\n");

@@ -3,6 +3,7 @@
 // where the Rust panics; the count of tokens or of valid bytes; for each token its kind's number, span and raw bounds.
 // Then comes the text. Whether a string was closed is left out.
 #![tactic(auto)]
+
 ghost use Rattle.std.specs.Prelude.{◌<◌, ◌≤◌, length};
 
 use lexer::Lexing;

@@ -2,6 +2,7 @@
 // expected of reading stands in a record (`records` says what that is) in the order of the functions below. Whether a string was
 // closed, and the count of those that were not, are left out.
 #![tactic(auto)]
+
 use as2_pcode::{Counts, Reading};
 use entries::{Level, Net, Operand};
 use records::{Cursor, expect, expect_i32, expect_signed, number_from, print_count};
@@ -263,7 +264,15 @@ fn count(rt: HostRuntime, path: &str, reading: Reading, c: Cursor, t: Totals) ->
 }
 
 // No text of the list is longer than 1,000 bytes; a level takes two words.
-fn hold(rt: HostRuntime, list: &[u8], path: &str, stop: usize, next: usize, text: &[u8], t: Totals) -> Totals {
+fn hold(
+    rt: HostRuntime,
+    list: &[u8],
+    path: &str,
+    stop: usize,
+    next: usize,
+    text: &[u8],
+    t: Totals,
+) -> Totals {
     let mut words = [0u64; 1024];
     let mut acted = [0u64; 1024];
     let mut operands = [0u64; 1024];

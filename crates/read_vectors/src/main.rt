@@ -3,6 +3,7 @@
 // all entries (`entry_records`). Three things of an answer are in the list and passed over until they are here: a level's net
 // by the jumps (document 02, §7), its label written last (§6), and how often a label was written (§3).
 #![tactic(auto)]
+
 use as2_pcode::Reading;
 use entry_records::{Entries, Totals};
 use fronts::Lent;
@@ -74,7 +75,9 @@ fn expect_answer(
 }
 
 // One text more: a difference is printed as it is found.
-fn count(rt: HostRuntime, words: &[u64; 2048],
+fn count(
+    rt: HostRuntime,
+    words: &[u64; 2048],
     operands: &[u64; 2048],
     reading: Reading,
     c: Cursor,
@@ -113,7 +116,14 @@ fn hold(rt: HostRuntime, list: &[u8], stop: usize, next: usize, text: &[u8], t: 
         &labels,
         reading,
     );
-    count(rt, &words, &operands, reading, records::ended(told, next), t)
+    count(
+        rt,
+        &words,
+        &operands,
+        reading,
+        records::ended(told, next),
+        t,
+    )
 }
 
 fn replay(rt: HostRuntime, list: &[u8]) -> Totals {

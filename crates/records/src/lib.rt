@@ -3,6 +3,7 @@
 // expected, in the order in which the program asks for it. A number below 254 is a byte; 254 stands before two bytes, 255
 // before eight, low byte first. A signed number is written as twice its size, less one if it is negative.
 #![tactic(auto)]
+
 ghost use Rattle.std.specs.Prelude.{◌≡◌, ◌<◌, ◌≤◌, IfOk, length};
 
 use printing::{print_number, print_text};

@@ -1,6 +1,7 @@
 // Values at their limits. First the texts on standard input, a line for each token with its value, and of an Integer token
 // its u8, u16 and i32; then tokens that no text yields, and texts of 65,536 and 65,537 bytes.
 #![tactic(auto)]
+
 ghost use Rattle.std.specs.Prelude.{◌≤◌, IfOk, length};
 
 use lexer::Lexing;
