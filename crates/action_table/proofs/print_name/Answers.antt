@@ -1,5 +1,6 @@
 -- `LETTERS` are the letters of all names.
-use Rattle.std.proofs.Common.{refl, flatten}
+use mathlib.Core.List.{flatten}
+use Rattle.std.proofs.Common.{refl}
 use Rattle.words.specs.Spellings.{all_letters, bytes, spellings}
 use Rattle.action_table.proofs.print_name.Goals as goal
 
