@@ -1,5 +1,6 @@
 // The entries of a reading, held to a record (`records` says what that is), and what was compared, counted.
 #![tactic(auto)]
+
 use answers::Refusal;
 use entries::{Action, Block, Label, Level, Operand};
 use pcode::StackDelta;
