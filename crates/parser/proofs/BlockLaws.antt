@@ -4,14 +4,11 @@ use mathlib.Core.Bool.{Bool, true, false}
 use mathlib.Core.List.{List, [], ◌∷◌}
 use Prim.Native.Nat.{ℕ, suc, ◌+◌, ◌*◌, ◌-◌, ◌≤◌, ◌<◌}
 use native.Mathlib.Omega.{arith}
-use denote.Enum.Declared.{tag_of}
 use lib.Dec.{ltb}
 use lib.ListN.{length, set}
 use borrow.Author.Tests.{ltb-true, ltb-false}
-use types.Run.{OneOf, miss}
 use Rattle.shapes.specs.declared.Shape.{Shape}
 use Rattle.shapes.specs.declared.Shape.TheVariants as S
-use Rattle.shapes.specs.contracts.Shape.{the_type as shape-type}
 use Rattle.lexemes.specs.Events.{opened}
 use Rattle.machine.specs.Machine.{Nesting, inner, no_handlers, Symbol, opens, level, item, ended, out}
 use Rattle.machine.specs.Depth.{fault}
@@ -134,23 +131,20 @@ module _ (w : Shape) (text s a b : List ℕ) (c : At) (room : ℕ) (r : Step) wh
 action-end : (text s a : List ℕ) (c : At) (room : ℕ) (r : Step) → EndRead text s c r → ReadsIn action-ends at_item text s a a c room r
 action-end text s a c room r v = record { says = λ e σ. (v.with_log a).says e σ room; ahead = (v.with_log a).ahead }
 
-abbrev rest : List ℕ
-rest = 0 ∷ 1 ∷ 2 ∷ 3 ∷ 4 ∷ 5 ∷ 6 ∷ 7 ∷ 8 ∷ 9 ∷ 10 ∷ []
-
-pub blocks-none : (w : Shape) (text s a : List ℕ) (c : At) (room : ℕ) (r : Step) → EndRead text s c r → OneOf (0 ∷ 1 ∷ 2 ∷ 3 ∷ 4 ∷ 5 ∷ 6 ∷ 7 ∷ 8 ∷ 9 ∷ 10 ∷ []) (tag_of shape-type w) →
+pub blocks-none : (w : Shape) (text s a : List ℕ) (c : At) (room : ℕ) (r : Step) → EndRead text s c r → (w ≡ S.Function → ⊥) → (w ≡ S.Function2 → ⊥) → (w ≡ S.Block → ⊥) → (w ≡ S.Try → ⊥) →
     BlocksRead w text s a a c room r
-blocks-none S.Nothing text s a c room r v o = action-end text s a c room r v
-blocks-none S.Values text s a c room r v o = action-end text s a c room r v
-blocks-none S.Strings text s a c room r v o = action-end text s a c room r v
-blocks-none S.StringString text s a c room r v o = action-end text s a c room r v
-blocks-none S.BoolBoolU8 text s a c room r v o = action-end text s a c room r v
-blocks-none S.U16 text s a c room r v o = action-end text s a c room r v
-blocks-none S.BoolBoolMaybeU16 text s a c room r v o = action-end text s a c room r v
-blocks-none S.String text s a c room r v o = action-end text s a c room r v
-blocks-none S.Identifier text s a c room r v o = action-end text s a c room r v
-blocks-none S.U8 text s a c room r v o = action-end text s a c room r v
-blocks-none S.U16U8 text s a c room r v o = action-end text s a c room r v
-blocks-none S.Function text s a c room r v o = absurd (miss rest 11 tt o)
-blocks-none S.Function2 text s a c room r v o = absurd (miss rest 12 tt o)
-blocks-none S.Block text s a c room r v o = absurd (miss rest 13 tt o)
-blocks-none S.Try text s a c room r v o = absurd (miss rest 14 tt o)
+blocks-none S.Nothing text s a c room r v f g h i = action-end text s a c room r v
+blocks-none S.Values text s a c room r v f g h i = action-end text s a c room r v
+blocks-none S.Strings text s a c room r v f g h i = action-end text s a c room r v
+blocks-none S.StringString text s a c room r v f g h i = action-end text s a c room r v
+blocks-none S.BoolBoolU8 text s a c room r v f g h i = action-end text s a c room r v
+blocks-none S.U16 text s a c room r v f g h i = action-end text s a c room r v
+blocks-none S.BoolBoolMaybeU16 text s a c room r v f g h i = action-end text s a c room r v
+blocks-none S.String text s a c room r v f g h i = action-end text s a c room r v
+blocks-none S.Identifier text s a c room r v f g h i = action-end text s a c room r v
+blocks-none S.U8 text s a c room r v f g h i = action-end text s a c room r v
+blocks-none S.U16U8 text s a c room r v f g h i = action-end text s a c room r v
+blocks-none S.Function text s a c room r v f g h i = absurd (f refl)
+blocks-none S.Function2 text s a c room r v f g h i = absurd (g refl)
+blocks-none S.Block text s a c room r v f g h i = absurd (h refl)
+blocks-none S.Try text s a c room r v f g h i = absurd (i refl)

@@ -4,9 +4,7 @@ use mathlib.Core.Bool.{Bool, true, false}
 use mathlib.Core.List.{List, [], ◌∷◌, ◌++◌}
 use Prim.Native.Nat.{ℕ, suc, ◌+◌, ◌*◌, ◌-◌, ◌≤◌, ◌<◌}
 use native.Mathlib.Omega.{arith}
-use denote.Enum.Declared.{tag_of}
 use lib.ListN.{length, get_or, set}
-use types.Run.{OneOf, miss}
 use Rattle.names.specs.declared.ActionName.{ActionName}
 use Rattle.actions.specs.Numbers.{number_of}
 use Rattle.actions.proofs.Numbers.{number_below}
@@ -17,7 +15,6 @@ use Rattle.tokens.specs.declared.TokenKind.TheVariants as K
 use Rattle.tokens.specs.declared.Token.{Token}
 use Rattle.tokens.specs.Kinds.{code_of}
 use Rattle.tokens.specs.Tokens.{token_of, raw_text}
-use Rattle.tokens.specs.contracts.TokenKind.{the_type as kind-type}
 use Rattle.lexemes.specs.Lexemes.{lexeme}
 use Rattle.lexemes.specs.Events.{acted, closed}
 use Rattle.machine.specs.Plans.{plan_of}
@@ -41,7 +38,7 @@ use Rattle.parser.proofs.BlockLaws.{in_on, in_to}
 
 -- a token that is no action word, and no newline, label or closing brace either
 pub action_not : (text s a : List ℕ) (c : At) (room : ℕ) (t : Token) (k : TokenKind) → Fine text s c → c.at < length s → Plain s c → t ≡ token_of (get_or s c.at 0) → k ≡ t.kind →
-    OneOf (0 ∷ 1 ∷ 2 ∷ 3 ∷ 4 ∷ 5 ∷ 7 ∷ 8 ∷ 9 ∷ 10 ∷ 11 ∷ 12 ∷ 13 ∷ 14 ∷ 15 ∷ 16 ∷ 17 ∷ 18 ∷ []) (tag_of kind-type k) → ItemRead text s a a c room (Bad c.at)
+    ((n : ActionName) → k ≡ K.ActionName n → ⊥) → ItemRead text s a a c room (Bad c.at)
 unfolding outcome Ahead Forward
 action_not text s a c room t k f i p e q o =
     record {
@@ -53,9 +50,7 @@ action_not text s a c room t k f i p e q o =
     at_place j z = kind-inside s c.at i ∙ ap (λ (y : TokenKind). (code_of y).place) z
 
     no_word : (n : ActionName) → (token_of (get_or s c.at 0)).kind ≡ K.ActionName n → ⊥
-    no_word n z =
-        miss (0 ∷ 1 ∷ 2 ∷ 3 ∷ 4 ∷ 5 ∷ 7 ∷ 8 ∷ 9 ∷ 10 ∷ 11 ∷ 12 ∷ 13 ∷ 14 ∷ 15 ∷ 16 ∷ 17 ∷ 18 ∷ []) 6 tt
-        (subst (λ (y : TokenKind). OneOf (0 ∷ 1 ∷ 2 ∷ 3 ∷ 4 ∷ 5 ∷ 7 ∷ 8 ∷ 9 ∷ 10 ∷ 11 ∷ 12 ∷ 13 ∷ 14 ∷ 15 ∷ 16 ∷ 17 ∷ 18 ∷ []) (tag_of kind-type y)) (q ∙ ap (λ (y : Token). y.kind) e ∙ z) o)
+    no_word n z = o n (q ∙ ap (λ (y : Token). y.kind) e ∙ z)
 
     stops : (x : Nesting) (j : TokenKind) → (token_of (get_or s c.at 0)).kind ≡ j → move (level x (item no_handlers)) (lexeme c.at j (raw_text text (token_of (get_or s c.at 0)))) ≡ stop
     stops x K.Newline z = absurd (p.not_newline (at_place K.Newline z))
@@ -234,13 +229,13 @@ item_less text s a b c p d i t v l m = omega (arith, v.from)
 -- a refusal does not depend on what was to come, nor on how many blocks may open
 gives_up : (text s : List ℕ) (σ τ : List Symbol) (d n : ℕ) (a b : List ℕ) (r : Step) → Refuses r → outcome text s σ d a r ≡ outcome text s τ n b r
 unfolding outcome
-gives_up text s σ τ d n a b (To c) o = absurd (miss (1 ∷ 2 ∷ []) 0 tt o)
+gives_up text s σ τ d n a b (To c) o = absurd (o c refl)
 gives_up text s σ τ d n a b (Bad k) o = refl
 gives_up text s σ τ d n a b (Deep k) o = refl
 
 as_whole : (text s : List ℕ) (σ : List Symbol) (d : ℕ) (a : List ℕ) (r : Step) → Refuses r → outcome text s σ d a r ≡ whole s a r
 unfolding outcome whole
-as_whole text s σ d a (To c) o = absurd (miss (1 ∷ 2 ∷ []) 0 tt o)
+as_whole text s σ d a (To c) o = absurd (o c refl)
 as_whole text s σ d a (Bad k) o = refl
 as_whole text s σ d a (Deep k) o = refl
 

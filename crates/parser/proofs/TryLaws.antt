@@ -3,9 +3,7 @@ use mathlib.Core.Path.{◌≡◌, refl, sym, ap, ◌∙◌, subst}
 use mathlib.Core.List.{List, [], ◌∷◌}
 use Prim.Native.Nat.{ℕ, ◌+◌, ◌*◌, ◌-◌, ◌≤◌, ◌<◌}
 use native.Mathlib.Omega.{arith}
-use denote.Enum.Declared.{tag_of}
 use lib.ListN.{length}
-use types.Run.{OneOf, miss}
 use mir.Syntax.{w64}
 use mir.Val.{Fits}
 use Rattle.lexemes.specs.Events.{try, catch}
@@ -16,7 +14,6 @@ use Rattle.operands.specs.declared.Step.TheVariants.{To, Bad}
 use Rattle.operands.specs.Log.{Log, log, emit}
 use Rattle.operands.specs.Contract.{judge, outcome, Fine, Onward, Ahead}
 use Rattle.operands.proofs.Runs.{Refuses, further_on, refusal}
-use Rattle.parser.specs.contracts.Handler.{the_type as handler-type}
 use Rattle.parser.specs.declared.CatchTarget.{CatchTarget}
 use Rattle.parser.specs.declared.CatchTarget.TheVariants as T
 use Rattle.parser.specs.declared.Handler.{Handler}
@@ -138,13 +135,13 @@ module _ (text s l : List ℕ) (c : At) (room : ℕ) (x : Handler) (v : HandlerR
       record { behind_catch = record { says = λ e σ. w.again e σ room (log l c); ahead = omega (arith, w.to) }; behind_try = λ n o. absurd (subst NoCatch u n) }
 
 -- and where no catch block follows a try block, its target is dropped
-pub try-ends : (text s l m : List ℕ) (c : At) (a : CatchTarget) (room : ℕ) (x : Handler) (r : Step) → OneOf (0 ∷ 1 ∷ 3 ∷ []) (tag_of handler-type x) → LastRead x text s l m c room r → HandlersRead a text s l m c room r
+pub try-ends : (text s l m : List ℕ) (c : At) (a : CatchTarget) (room : ℕ) (x : Handler) (r : Step) → ((q : ℕ) → x ≡ H.Catch q → ⊥) → LastRead x text s l m c room r → HandlersRead a text s l m c room r
 try-ends text s l m c a room x r o v = v.behind_try (no_catch x o) (target_of text s a)
   where
-    no_catch : (y : Handler) → OneOf (0 ∷ 1 ∷ 3 ∷ []) (tag_of handler-type y) → NoCatch y
+    no_catch : (y : Handler) → ((q : ℕ) → y ≡ H.Catch q → ⊥) → NoCatch y
     no_catch H.NoNewline o = tt
     no_catch (H.Item q) o = tt
-    no_catch (H.Catch q) o = absurd (miss (0 ∷ 1 ∷ 3 ∷ []) 2 tt o)
+    no_catch (H.Catch q) o = absurd (o q refl)
     no_catch (H.Finally q) o = tt
 
 -- the place behind a handler's word is a number

@@ -215,7 +215,7 @@ fn block_number(b: BlockKind) -> u64
 // ---- the cycle
 
 // The labels and actions of a level, up to the brace that closes it or the end of the text.
-#[cycle(action_actions_block_blocks_handlers_item_last_block_last_handler_try_catch)]
+#[cycle(parser)]
 fn actions(text: &[u8], s: &[u64], events: &mut [u64], c: At, room: usize, inside: bool) -> Step
     requires { Fine text.now s.now c }
     ensures { LevelRead text.now s.now events.old events.new c room inside result }
@@ -243,7 +243,7 @@ fn actions(text: &[u8], s: &[u64], events: &mut [u64], c: At, room: usize, insid
 }
 
 // A newline, a label, or an action with what must follow it.
-#[cycle(action_actions_block_blocks_handlers_item_last_block_last_handler_try_catch)]
+#[cycle(parser)]
 fn item(text: &[u8], s: &[u64], events: &mut [u64], c: At, room: usize) -> Step
     requires fine { Fine text.now s.now c }
     requires at_in_bounds { c.at < length s.now }
@@ -263,7 +263,7 @@ fn item(text: &[u8], s: &[u64], events: &mut [u64], c: At, room: usize) -> Step
 }
 
 // An action, by the name that its word's kind carries, and what must follow it.
-#[cycle(action_actions_block_blocks_handlers_item_last_block_last_handler_try_catch)]
+#[cycle(parser)]
 fn action(text: &[u8], s: &[u64], events: &mut [u64], c: At, room: usize) -> Step
     requires fine { Fine text.now s.now c }
     requires at_in_bounds { c.at < length s.now }
@@ -289,7 +289,7 @@ fn action(text: &[u8], s: &[u64], events: &mut [u64], c: At, room: usize) -> Ste
 }
 
 // The blocks behind an action's operands, and the action's end.
-#[cycle(action_actions_block_blocks_handlers_item_last_block_last_handler_try_catch)]
+#[cycle(parser)]
 fn blocks(text: &[u8], s: &[u64], events: &mut [u64], c: At, room: usize, w: Shape) -> Step
     requires { Fine text.now s.now c }
     ensures { BlocksRead w text.now s.now events.old events.new c room result }
@@ -304,7 +304,7 @@ fn blocks(text: &[u8], s: &[u64], events: &mut [u64], c: At, room: usize, w: Sha
 }
 
 // A block that no other block of its action can follow.
-#[cycle(action_actions_block_blocks_handlers_item_last_block_last_handler_try_catch)]
+#[cycle(parser)]
 fn last_block(text: &[u8], s: &[u64], events: &mut [u64], c: At, room: usize, b: BlockKind) -> Step
     requires { Fine text.now s.now c }
     ensures { LastBlockRead b text.now s.now events.old events.new c room result }
@@ -316,7 +316,7 @@ fn last_block(text: &[u8], s: &[u64], events: &mut [u64], c: At, room: usize, b:
     end_of_action(text, s, p)
 }
 
-#[cycle(action_actions_block_blocks_handlers_item_last_block_last_handler_try_catch)]
+#[cycle(parser)]
 fn block(text: &[u8], s: &[u64], events: &mut [u64], c: At, room: usize, b: BlockKind) -> Step
     requires { Fine text.now s.now c }
     ensures { BlockRead b text.now s.now events.old events.new c room result }
@@ -337,7 +337,7 @@ fn block(text: &[u8], s: &[u64], events: &mut [u64], c: At, room: usize, b: Bloc
 }
 
 // The blocks of a Try, with its target, and its end.
-#[cycle(action_actions_block_blocks_handlers_item_last_block_last_handler_try_catch)]
+#[cycle(parser)]
 fn try_catch(text: &[u8], s: &[u64], events: &mut [u64], c: At, room: usize) -> Step
     requires { Fine text.now s.now c }
     ensures { TryRead text.now s.now events.old events.new c room result }
@@ -352,7 +352,7 @@ fn try_catch(text: &[u8], s: &[u64], events: &mut [u64], c: At, room: usize) -> 
 }
 
 // What follows the try block: a catch block, to which the target belongs, and what follows that.
-#[cycle(action_actions_block_blocks_handlers_item_last_block_last_handler_try_catch)]
+#[cycle(parser)]
 fn handlers(text: &[u8], s: &[u64], events: &mut [u64], c: At, room: usize, a: CatchTarget) -> Step
     requires fine { Fine text.now s.now c }
     requires target_before { TargetBefore c a }
@@ -373,7 +373,7 @@ fn handlers(text: &[u8], s: &[u64], events: &mut [u64], c: At, room: usize, a: C
 }
 
 // A finally block and the action's end, or the end alone. A catch block cannot follow any more.
-#[cycle(action_actions_block_blocks_handlers_item_last_block_last_handler_try_catch)]
+#[cycle(parser)]
 fn last_handler(text: &[u8], s: &[u64], events: &mut [u64], c: At, room: usize, x: Handler) -> Step
     requires fine { Fine text.now s.now c }
     requires handler_read { HandlerRead text.now s.now c x }

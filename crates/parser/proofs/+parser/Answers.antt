@@ -1,0 +1,148 @@
+-- The readers of levels, actions and blocks meet their contracts, by one induction on the tokens that are left: each goal is a law
+-- of BlockLaws, TryLaws or LevelLaws, with the facts listed where the search would not reach them. Assumes nothing.
+use Rattle.std.proofs.Common.{refl, rules}
+use Rattle.operands.proofs.Runs.{fine-to}
+use Rattle.parser.proofs.BlockLaws.{block-bad, block-deep, block_goes, blocks-none, in_fine, last-block-bad, last-block_ok, opened-fine, opened_less}
+use Rattle.parser.proofs.TryLaws.{catch_asked, catch-bad, catch-fine, catch_less, catch-next, catch_ok, caught_less, finally-fine, finally_less, finally-next, last-catch, last_end, last-finally, last-item, tried_before, tried_less, try-bad, try-ends, try-fine, try_less, try_ok}
+use Rattle.parser.proofs.LevelLaws.{acted_less, action_not, action-whole, item-newline, level_close_bad, level_closes, level_fails, level-short, level-whole, number_fits, operands-bad, reach_less, reach_next}
+use Rattle.parser.proofs.+parser.Goals as goal
+
+-- ---- action
+
+pub action-returns-in_default : goal.action-returns-in_default
+action-returns-in_default t c = action_not _ _ _ _ _ _ _ c.requires.fine c.requires.at_in_bounds c.requires.plain c.token_of-t.ensures refl c.in_default.not-ActionName
+
+pub action-write_event-requires-clause-holdable : goal.action-write_event-requires-clause-holdable
+action-write_event-requires-clause-holdable t c = search number_fits
+
+pub action-returns-in_default-r : goal.action-returns-in_default-r
+action-returns-in_default-r t c =
+    search (operands-bad, c.in_default-r.not-To, c.operands-r.ensures, c.shape_of-w.ensures, c.logged-d.ensures, c.write_event.ensures, c.action_number-j.ensures, c.in-ActionName.is, c.token_of-t.ensures, c.requires)
+
+pub action-blocks-requires : goal.action-blocks-requires
+action-blocks-requires t c =
+    (acted_less _ _ _ _ _ _ _ _ _ c.requires.at_in_bounds c.logged-d.ensures c.operands-r.ensures c.in-To.is c.decreases, search (fine-to, c.in-To.is, c.operands-r.ensures))
+
+pub action-returns : goal.action-returns
+action-returns t c =
+    search (action-whole, c.blocks-2.ensures, c.in-To.is, c.operands-r.ensures, c.shape_of-w.ensures, c.logged-d.ensures, c.write_event.ensures, c.action_number-j.ensures, c.in-ActionName.is, c.token_of-t.ensures, c.requires)
+
+-- ---- actions
+
+pub actions-returns-then-inside : goal.actions-returns-then-inside
+actions-returns-then-inside t c = search level_closes
+
+pub actions-returns-then-k-eq-CLOSE_BRACE : goal.actions-returns-then-k-eq-CLOSE_BRACE
+actions-returns-then-k-eq-CLOSE_BRACE t c = search level_close_bad
+
+pub actions-returns-in_default : goal.actions-returns-in_default
+actions-returns-in_default t c = search (level_fails, c.in_default.not-To)
+
+pub actions-loop-p-smaller : goal.actions-loop-p-smaller
+actions-loop-p-smaller t c = search reach_less
+
+pub actions-loop-p-preserved : goal.actions-loop-p-preserved
+actions-loop-p-preserved t c = (search reach_next, search rules)
+
+pub actions-returns-then-inside-2 : goal.actions-returns-then-inside-2
+actions-returns-then-inside-2 t c = search level-short
+
+pub actions-returns-else-inside-2 : goal.actions-returns-else-inside-2
+actions-returns-else-inside-2 t c = search level-whole
+
+-- ---- block
+
+pub block-returns-then-k-ne-OPEN_BRACE : goal.block-returns-then-k-ne-OPEN_BRACE
+block-returns-then-k-ne-OPEN_BRACE t c = search block-bad
+
+pub block-returns-then-room-eq0 : goal.block-returns-then-room-eq0
+block-returns-then-room-eq0 t c = search block-deep
+
+pub block-actions-requires : goal.block-actions-requires
+block-actions-requires t c = (search opened_less, search opened-fine)
+
+pub block-returns : goal.block-returns
+block-returns t c = search block_goes
+
+-- ---- blocks
+
+pub blocks-returns-in_default : goal.blocks-returns-in_default
+blocks-returns-in_default t c = search (blocks-none, c.in_default)
+
+-- ---- handlers
+
+pub handlers-returns-in_default : goal.handlers-returns-in_default
+handlers-returns-in_default t c = search (try-ends, c.in_default.not-Catch)
+
+pub handlers-overflow_add-q : goal.handlers-overflow_add-q
+handlers-overflow_add-q t c = search catch-next
+
+pub handlers-give_target-f-requires : goal.handlers-give_target-f-requires
+handlers-give_target-f-requires t c = search catch_asked
+
+pub handlers-block-y-requires : goal.handlers-block-y-requires
+handlers-block-y-requires t c = (search catch_less, search catch-fine)
+
+pub handlers-returns-in_default-y : goal.handlers-returns-in_default-y
+handlers-returns-in_default-y t c = search (catch-bad, c.in_default-y.not-To)
+
+pub handlers-next_handler-z-requires : goal.handlers-next_handler-z-requires
+handlers-next_handler-z-requires t c = search (in_fine, c.in-To.is, c.block-y.ensures)
+
+pub handlers-last_handler-requires-2 : goal.handlers-last_handler-requires-2
+handlers-last_handler-requires-2 t c =
+    (caught_less _ _ _ _ _ _ _ _ _ _ c.requires.fine c.next_handler-x.ensures c.in-Catch.is c.move_to-e.ensures c.give_target-f.ensures _ _ _ c.block-y.ensures _ _ c.in-To.is c.decreases, (search (in_fine, c.in-To.is, c.block-y.ensures), c.next_handler-z.ensures))
+
+pub handlers-returns : goal.handlers-returns
+handlers-returns t c =
+    catch_ok _ _ _ _ _ _ _ _ _ _ c.requires.fine c.next_handler-x.ensures c.in-Catch.is c.move_to-e.ensures c.give_target-f.ensures _ _ _ c.block-y.ensures _ _ _ _ c.in-To.is c.last_handler-2.ensures
+
+-- ---- item
+
+pub item-returns-then-k-eq-NEWLINE : goal.item-returns-then-k-eq-NEWLINE
+item-returns-then-k-eq-NEWLINE t c = search item-newline
+
+-- ---- last_block
+
+pub last_block-returns-in_default : goal.last_block-returns-in_default
+last_block-returns-in_default t c = search (last-block-bad, c.in_default.not-To)
+
+pub last_block-end_of_action-requires : goal.last_block-end_of_action-requires
+last_block-end_of_action-requires t c = search in_fine
+
+pub last_block-returns : goal.last_block-returns
+last_block-returns t c = search last-block_ok
+
+-- ---- last_handler
+
+pub last_handler-overflow_add-q : goal.last_handler-overflow_add-q
+last_handler-overflow_add-q t c = search finally-next
+
+pub last_handler-last_block-requires : goal.last_handler-last_block-requires
+last_handler-last_block-requires t c = (search finally_less, search finally-fine)
+
+pub last_handler-returns-in-NoNewline : goal.last_handler-returns-in-NoNewline
+last_handler-returns-in-NoNewline t c = search last_end
+
+pub last_handler-returns-in-Item : goal.last_handler-returns-in-Item
+last_handler-returns-in-Item t c = search last-item
+
+pub last_handler-returns-in-Finally : goal.last_handler-returns-in-Finally
+last_handler-returns-in-Finally t c = search last-finally
+
+pub last_handler-returns-in-Catch : goal.last_handler-returns-in-Catch
+last_handler-returns-in-Catch t c = search last-catch
+
+-- ---- try_catch
+
+pub try_catch-block-r-requires : goal.try_catch-block-r-requires
+try_catch-block-r-requires t c = (search try_less, search try-fine)
+
+pub try_catch-returns-in_default : goal.try_catch-returns-in_default
+try_catch-returns-in_default t c = search (try-bad, c.in_default.not-To)
+
+pub try_catch-handlers-requires : goal.try_catch-handlers-requires
+try_catch-handlers-requires t c = (search tried_less, (search in_fine, search tried_before))
+
+pub try_catch-returns : goal.try_catch-returns
+try_catch-returns t c = search try_ok

@@ -1,0 +1,22 @@
+-- `parser::newlines` meets its contract. Assumes nothing.
+use borrow.Author.Rules.{rules}
+use Prim.Native.Nat.{◌-◌}
+use lib.ListN.{length}
+use Rattle.parser.proofs.Leaves.{Skipped, skip_start, skip_next, skip_ends, skip_over}
+use Rattle.parser.proofs.newlines.Goals as goal
+
+pub loop-p-init : goal.loop-p-init
+loop-p-init c =
+    search skip_start
+
+pub returns-then-k-ne-NEWLINE : goal.returns-then-k-ne-NEWLINE
+returns-then-k-ne-NEWLINE c =
+    search skip_ends
+
+pub loop-p-preserved : goal.loop-p-preserved
+loop-p-preserved c =
+    search skip_next
+
+pub returns : goal.returns
+returns c =
+    search skip_over
