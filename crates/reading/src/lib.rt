@@ -1,5 +1,6 @@
 // From a text to its tokens and a log of its events.
 #![tactic(auto)]
+
 ghost use Rattle.std.specs.Prelude.{◌≤◌, length};
 ghost use Rattle.utf8.specs.Utf8.{valid_up_to};
 ghost use Rattle.reading.specs.Told.{Parses};
