@@ -9,7 +9,7 @@ use lib.ListN.{length, get_or, get_or-eq_default}
 use borrow.Author.Tests.{ltb-true, ltb-false, lt-ltb, le-ltb, le-leb}
 use Rattle.tokens.specs.declared.Token.{Token}
 use Rattle.tokens.specs.Kinds.{kind_of}
-use Rattle.tokens.specs.Tokens.{token_of, within, is_within}
+use Rattle.tokens.specs.Tokens.{token_of, is_within}
 use Rattle.values.specs.Values.{push_value}
 use Rattle.classes.specs.Lexemes.{Sound}
 use Rattle.entries.specs.declared.Action.{Action}

@@ -1,5 +1,6 @@
 // The operands of an action: one by its place, lists of them, and flags in bits.
 #![tactic(auto)]
+
 ghost use Rattle.std.specs.Prelude.{◌≡◌, [], ◌∷◌, map, ◌<◌, drop};
 ghost use Rattle.tokens.specs.Tokens.{token_of};
 ghost use Rattle.classes.specs.Lexemes.{Sound};
