@@ -1,5 +1,6 @@
 // The fields of the actions that own blocks: DefineFunction, DefineFunction2 and Try. The sizes of their blocks are 0.
 #![tactic(auto)]
+
 ghost use Rattle.std.specs.Prelude.{◌≡◌, [], ◌∷◌, ◌-◌};
 ghost use Rattle.shapes.specs.declared.Shape.TheVariants as S;
 ghost use Rattle.classes.specs.Lexemes.{Sound};
