@@ -1,5 +1,6 @@
 // The fields of a record by the shape of its operands; sizes of bodies and offsets of jumps are 0.
 #![tactic(auto)]
+
 ghost use Rattle.shapes.specs.declared.Shape.TheVariants as S;
 ghost use Rattle.classes.specs.Lexemes.{Sound};
 ghost use Rattle.field_coding.specs.Coding.{Codes, Room};
