@@ -1,6 +1,7 @@
 // The labels of a log, by level and those of one name brought together, handed to a lent table if it has room: over scratch of the
 // labels' number.
 #![tactic(auto)]
+
 ghost use Rattle.std.specs.Prelude.{◌≡◌, ◌+◌, ◌≤◌, ◌<◌, length, set, take};
 ghost use Rattle.events.specs.Log.{Holds};
 ghost use Rattle.entries.specs.Entries.{label_word};

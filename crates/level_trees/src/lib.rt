@@ -1,5 +1,6 @@
 // Walking a tree of levels by its table: the blocks of an action are the next levels, as long as they are its own.
 #![tactic(auto)]
+
 ghost use Rattle.std.specs.Prelude.{◌≡◌};
 ghost use Rattle.entries.specs.Entries.{level_in};
 ghost use Rattle.level_trees.specs.Held.{is_block_of};
