@@ -1,5 +1,6 @@
 // The answer of reading, and what it hands over: a reading's entries go into the lent tables if all of them have room.
 #![tactic(auto)]
+
 ghost use Rattle.std.specs.Prelude.{◌≡◌, [], ◌∷◌, length};
 ghost use Rattle.reading.specs.Told.{Logged};
 ghost use Rattle.handover.specs.Reading.{ReadsWords, lent};
