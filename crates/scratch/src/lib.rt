@@ -1,5 +1,6 @@
 // Reading a valid text over scratch for its tokens and its log, by the length of the text.
 #![tactic(auto)]
+
 ghost use Rattle.std.specs.Prelude.{◌≤◌, length};
 ghost use Rattle.utf8.specs.Utf8.{valid_up_to};
 ghost use Rattle.handover.specs.Reading.{ReadsWords as Reads, lent};
