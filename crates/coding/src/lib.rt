@@ -1,5 +1,6 @@
 // The bytes of action records, coded from a text's tokens.
 #![tactic(auto)]
+
 mod code;
 
 ghost use Rattle.std.specs.Prelude.{◌≡◌, true, length};
