@@ -1,6 +1,6 @@
 -- The bytes of a tree of records: each with its bodies behind it, the sizes of its bodies and the offset of its jump filled in, and the
 -- lowest action with a size or an offset out of its field. No public contract cites it.
-use Rattle.std.specs.Prelude.{Bool, true, cond, List, [], ◌∷◌, ◌++◌, ℕ, zero, suc, ◌+◌, ◌-◌, ◌%◌, min, ℤ, length, get_or, set}
+use Rattle.std.specs.Prelude.{cond, List, [], ◌++◌, ℕ, zero, suc, ◌+◌, ◌-◌, ◌%◌, min, ℤ, length, get_or, set}
 use Rattle.std.proofs.Math.IntN.{sub_ℕ}
 use Rattle.std.proofs.lemmas.List.Edits.{sets}
 use Rattle.lexemes.specs.Events.{Part, body, try, catch, finally}

@@ -1,6 +1,7 @@
 // What is filled into records and found out only when they have their places: sizes of bodies, flags of a Try, offsets of jumps. Past the
 // output's end nothing is stored.
 #![tactic(auto)]
+
 ghost use Rattle.std.specs.Prelude.{◌≡◌, ◌+◌, ◌*◌, ◌-◌, ◌<◌, ◌≤◌, ◌%◌, ◌/◌, min, set, get_or};
 ghost use Rattle.std.proofs.Math.IntN.{sub_ℕ};
 ghost use Rattle.std.proofs.lemmas.List.Edits.{sets};
