@@ -58,16 +58,12 @@ fn print_named(rt: HostRuntime, what: &[u8], n: usize) {
 
 // The whole number that a double is, if it is one.
 fn whole(x: f64) -> Natural {
-    if x > -1.0 {
-        if x < 18446744073709551616.0 {
-            let n = std::num::truncating_f64_to_u64(x);
-            if 9007199254740992 < n {
-                return Natural::Nothing;
-            }
-            if n as f64 == x {
-                return Natural::Is(n);
-            }
-        }
+    let n = std::num::saturating_f64_to_u64(x);
+    if 9007199254740992 < n {
+        return Natural::Nothing;
+    }
+    if n as f64 == x {
+        return Natural::Is(n);
     }
     Natural::Nothing
 }
