@@ -1,5 +1,6 @@
 // Reading: a text's tokens, actions, operands, levels and labels, in lent tables. From as2_pcode.rs.
 #![tactic(auto)]
+
 ghost use Rattle.handover.specs.Reading.{ReadsWords as Reads, lent};
 
 use answers::Refusal;

@@ -1,5 +1,6 @@
 // What C is told of the entries of the tables, and of a reading: its numbers in `out` arrays.
 #![tactic(auto)]
+
 ghost use Rattle.std.specs.Prelude.{◌≡◌};
 ghost use Rattle.c_entries.specs.Entries.{action_after, one_if, operand_after, block_part, net_kind, net_action, net_height, level_after, height_after, label_after, read_number, read_after};
 
