@@ -1,6 +1,7 @@
 // Reading as the programs that try it call it: into whole tables, or into the front of each. It promises nothing, so that a
 // check of such a program does not go through what `as2_pcode` promises of a reading.
 #![tactic(auto)]
+
 ghost use Rattle.std.specs.Prelude.{◌≤◌};
 
 use as2_pcode::Reading;

@@ -2,6 +2,7 @@
 // that reading accepts, and must then have changed nothing. Such a call reads by `read_held`, does its work, and hands over by
 // `hand_held`.
 #![tactic(auto)]
+
 ghost use Rattle.std.specs.Prelude.{◌≡◌, [], ◌∷◌, min, length};
 ghost use Rattle.handover.specs.Reading.{lent};
 ghost use Rattle.held.specs.Held.{Ample, Holds, token_count, Handable, handed};

@@ -1,5 +1,6 @@
 // The label that an If or a Jump names, in its level: found by the index of the labels that reading fills in.
 #![tactic(auto)]
+
 ghost use Rattle.std.specs.Prelude.{◌≡◌, ◌<◌, take};
 ghost use Rattle.labels.specs.Index.{Indexed};
 ghost use Rattle.jumps.specs.Aims.{name_at, aim_in, aim_at};
