@@ -120,7 +120,7 @@ module _ (T : Tables) (y : Style) where
     pub room : own_actions x + actions_inside blocks ≤ all_actions x
     pub acts_in : before x (suc k) ≤ all_actions x
     pub levs_in : levels_before x (suc k) ≤ levels_of x
-    pub size_in_lem : start x (suc k) ≤ size x
+    pub in_size : start x (suc k) ≤ size x
 
   pub own : (l : Tree) (i a m : ℕ) (x : Tree) (k : ℕ) → HoldsLevel T.levels (Told T y) x a m → k < own_actions x → Own l i a m x k
   own l i a m done k h lt = absurd (omega arith)
@@ -159,7 +159,7 @@ module _ (T : Tables) (y : Style) where
         room = omega arith;
         acts_in = omega arith;
         levs_in = omega arith;
-        size_in_lem = omega arith;
+        in_size = omega arith;
       }
     where
       swapped : (n : ℕ) → min n nobody ≡ min nobody n
@@ -181,7 +181,7 @@ module _ (T : Tables) (y : Style) where
       let o₀ = o.room in
       let o₁ = o.acts_in in
       let o₂ = o.levs_in in
-      let o₃ = o.size_in in
+      let o₃ = o.in_size in
       let next = with_blocks o.blocks o.piece.head in
       record {
         piece = o.piece;
@@ -216,7 +216,7 @@ module _ (T : Tables) (y : Style) where
         room = omega arith;
         acts_in = omega arith;
         levs_in = omega arith;
-        size_in_lem = omega arith;
+        in_size = omega arith;
       }
     where
       regroup : (u v w z : List ℕ) → u ++ (v ++ (w ++ z)) ≡ (u ++ (v ++ w)) ++ z

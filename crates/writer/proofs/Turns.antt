@@ -137,7 +137,7 @@ module _ (T : Tables) (y : Style) (l : Tree) (n a m : ℕ) (place₀ out₀ : Li
           let o₀ = o.room in
           let o₁ = o.acts_in in
           let o₂ = o.levs_in in
-          let o₃ = o.size_in in
+          let o₃ = o.in_size in
           let ea = g.action in
           let el = g.level in
           record {
@@ -162,7 +162,7 @@ module _ (T : Tables) (y : Style) (l : Tree) (n a m : ℕ) (place₀ out₀ : Li
             let v = (wrote turn.piece turn.blocks asked).byte in
             let r = g.reached in
             let s = turn.starts in
-            let i = turn.size_in in
+            let i = turn.in_size in
             let qs = q.low in
             omega arith
 

@@ -1,6 +1,7 @@
 // The records of a level, its bodies written straight into their places: each is lent the part behind its record. What does not fit the
 // output is not stored, but counted.
 #![tactic(auto)]
+
 ghost use Rattle.std.specs.Prelude.{◌≡◌, true, ◌≤◌, min, length};
 ghost use Rattle.std.proofs.lemmas.List.Edits.{sets};
 ghost use Rattle.action_records.specs.Fields.{is16};
