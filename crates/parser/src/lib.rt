@@ -1,6 +1,7 @@
 // The readers of levels, actions and blocks, by the names of the Rust's parser/actions.rs. They call one another: the remaining
 // tokens fall, and no more than `room` blocks open inside one another. What they read they write into a log of events.
 #![tactic(auto)]
+
 ghost use Rattle.std.specs.Prelude.{◌≡◌, ◌≤◌, ◌<◌, ◌+◌, length};
 ghost use Rattle.classes.specs.Lexemes.{Sound, kind_at};
 ghost use Rattle.operands.specs.Log.{part_number};

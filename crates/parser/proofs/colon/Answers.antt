@@ -1,5 +1,4 @@
 -- `parser::colon` meets its contract. Assumes nothing.
-use borrow.Author.Rules.{rules}
 use Rattle.parser.proofs.Leaves.{colon_ok, colon_bad}
 use Rattle.parser.proofs.colon.Goals as goal
 

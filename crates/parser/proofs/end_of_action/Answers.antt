@@ -1,5 +1,4 @@
 -- `parser::end_of_action` meets its contract. Assumes nothing.
-use borrow.Author.Rules.{rules}
 use Rattle.parser.proofs.Leaves.{end_ok, end-bad, end_past}
 use Rattle.parser.proofs.end_of_action.Goals as goal
 

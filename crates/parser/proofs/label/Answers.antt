@@ -1,5 +1,4 @@
 -- `parser::label` meets its contract. Assumes nothing.
-use borrow.Author.Rules.{rules}
 use Rattle.parser.proofs.Leaves.{label-fine, label_ok}
 use Rattle.parser.proofs.label.Goals as goal
 

@@ -1,8 +1,5 @@
 -- `parser::newlines` meets its contract. Assumes nothing.
-use borrow.Author.Rules.{rules}
-use Prim.Native.Nat.{◌-◌}
-use lib.ListN.{length}
-use Rattle.parser.proofs.Leaves.{Skipped, skip_start, skip_next, skip_ends, skip_over}
+use Rattle.parser.proofs.Leaves.{skip_start, skip_next, skip_ends, skip_over}
 use Rattle.parser.proofs.newlines.Goals as goal
 
 pub loop-p-init : goal.loop-p-init

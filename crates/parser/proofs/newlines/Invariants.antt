@@ -1,8 +1,7 @@
 -- `parser::newlines` meets its contract. Assumes nothing.
-use borrow.Author.Rules.{rules}
 use Prim.Native.Nat.{◌-◌}
 use lib.ListN.{length}
-use Rattle.parser.proofs.Leaves.{Skipped, skip_start, skip_next, skip_ends, skip_over}
+use Rattle.parser.proofs.Leaves.{Skipped}
 use Rattle.parser.proofs.newlines.Given as goal
 
 abbrev pub invariant-loop-p : goal.invariant-loop-p

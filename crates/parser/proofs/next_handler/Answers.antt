@@ -1,5 +1,4 @@
 -- `parser::next_handler` meets its contract. Assumes nothing.
-use borrow.Author.Rules.{rules}
 use Rattle.parser.proofs.Leaves.{handler_not, newline-inside, handler_catch, handler_finally, handler_item}
 use Rattle.parser.proofs.next_handler.Goals as goal
 

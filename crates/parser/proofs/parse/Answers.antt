@@ -1,5 +1,4 @@
 -- `parser::parse` meets its contract. Assumes nothing.
-use borrow.Author.Rules.{rules}
 use Rattle.parser.proofs.Whole.{parsed, start_fine}
 use Rattle.parser.proofs.parse.Goals as goal
 

@@ -1,5 +1,4 @@
 -- `parser::past_target` meets its contract. Assumes nothing.
-use borrow.Author.Rules.{rules}
 use Rattle.parser.proofs.Leaves.{past_token}
 use Rattle.parser.proofs.past_target.Goals as goal
 

@@ -1,5 +1,4 @@
 -- `parser::try_target` meets its contract. Assumes nothing.
-use borrow.Author.Rules.{rules}
 use Rattle.parser.proofs.Leaves.{target-some, target_none}
 use Rattle.parser.proofs.try_target.Goals as goal
 
