@@ -1,7 +1,6 @@
 -- The movie that a text says: document 02, §2 and §12.
-use Rattle.std.specs.Prelude.{Bool, true, false, cond, ◌||◌, List, [], ◌∷◌, ◌++◌, map, ℕ, suc, ◌/◌, eqb, length, drop}
+use Rattle.std.specs.Prelude.{Bool, true, false, cond, ◌||◌, List, [], ◌∷◌, map, ℕ, ◌/◌, eqb, length, drop}
 use Rattle.std.proofs.Math.Option.{Option, none, some}
-use Rattle.names.specs.declared.ActionName.{ActionName}
 use Rattle.shapes.specs.declared.Shape.{Shape}
 use Rattle.shapes.specs.declared.Shape.TheVariants as S
 use Rattle.shapes.specs.Shapes.{shape_of}
@@ -12,7 +11,7 @@ use Rattle.lexemes.specs.Operands.{value_of}
 use Rattle.lexemes.specs.Events.{catch}
 use Rattle.grammar.specs.Grammar as G
 use Rattle.grammar.specs.Reading.{Label, own_labels}
-use Rattle.movies.specs.Movie.{Value, string, number, integer, bool, register, constant, null, undefined, position, long, missing, Level, done, action, Blocks, no_blocks, block, Act, Movie, ◌!◌, whole, number_in, is_part}
+use Rattle.movies.specs.Movie.{Value, string, number, integer, bool, register, constant, null, undefined, position, long, missing, done, action, Blocks, no_blocks, block, Act, Movie, ◌!◌, whole, number_in, is_part}
 use Rattle.movies.specs.Strings.{decoded}
 
 -- ---- operands

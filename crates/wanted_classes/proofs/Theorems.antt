@@ -5,7 +5,7 @@ use mathlib.Core.List.{List, [], ◌∷◌, ◌++◌}
 use Prim.Native.Nat.{ℕ, zero, suc, ◌+◌, ◌≤◌, ◌<◌}
 use native.Mathlib.Omega.{arith}
 use lib.ListN.{length, get_or, replicate, get_or-replicate, length-replicate}
-use Rattle.lexemes.specs.Operands.{Class, string, value, bool, only_true, only_false, u8, u16, identifier, target, count, pairs as pairsOf}
+use Rattle.lexemes.specs.Operands.{Class, string, value, bool, only_true, u8, u16, identifier, target, count, pairs as pairsOf}
 use Rattle.shapes.specs.declared.Shape.{Shape}
 use Rattle.shapes.specs.declared.Shape.TheVariants as S
 use Rattle.grammar.specs.Grammar.{Takes, Body, push, constant_pool, get_url, get_url2, goto_frame, goto_frame2, goto_frame2_bias, goto_label, jump_to, store_register, wait_for_frame, define_function, define_function2, with_block, try_plain, try_target, others}
