@@ -10,8 +10,7 @@ use Rattle.lexemes.specs.Lexemes.{Lexeme}
 use Rattle.grammar.specs.Grammar as G
 use Rattle.grammar.specs.Reading.{Label, own_labels}
 use Rattle.reading.proofs.Runs.{Every}
-use Rattle.movies.specs.Meaning.{operands_of, meaning_in, blocks_in, meaning_of}
-use Rattle.movies.specs.Movie.{Movie}
+use Rattle.movies.specs.Meaning.{meaning_in, blocks_in, meaning_of}
 use Rattle.movies.specs.Sites.{Site, sites_from, sites_in, sites}
 use Rattle.action_records.specs.declared.Style.{Style}
 use Rattle.action_records.specs.Fields.{two's_complement}
@@ -20,7 +19,7 @@ use Rattle.action_records.specs.Bytes.{bytes_of_all, bytes_at, movie_bytes}
 use Rattle.action_records.specs.Export.{lacks_label}
 use Rattle.action_records.proofs.Lengths.{bytes-append}
 use Rattle.coding.specs.Heads.{head_of}
-use Rattle.filling.specs.Pieces.{Tree, start, with16, with_blocks, with_offset, bytes_from, bytes_in}
+use Rattle.filling.specs.Pieces.{start, with16, with_blocks, with_offset, bytes_from, bytes_in}
 use Rattle.pieces.proofs.Forms.{Form, Forms, FormsIn}
 use Rattle.pieces.proofs.Trees.{aim_of, tree_in_lem, trees_in, tree_of, act_of, start_is}
 use Rattle.pieces.proofs.Records.{aimed, record_is}

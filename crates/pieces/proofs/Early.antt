@@ -18,11 +18,11 @@ use Rattle.lexemes.specs.Lexemes.{Lexeme, raw}
 use Rattle.lexemes.specs.Operands.{value_of}
 use Rattle.lexemes.specs.Events.{Part, catch, finally}
 use Rattle.grammar.specs.Grammar as G
-use Rattle.grammar.specs.Reading.{Label, own_labels}
-use Rattle.movies.specs.Movie.{Value, string, bool, null, position, missing, ◌!◌, whole, number_in, is_register, has}
-use Rattle.movies.specs.Meaning.{meant, meaning, position_of, target_or, normal, has_catch, is_jump, operands_of, blocks_in}
+use Rattle.grammar.specs.Reading.{Label}
+use Rattle.movies.specs.Movie.{Value, bool, ◌!◌, number_in, is_register, has}
+use Rattle.movies.specs.Meaning.{meant, meaning, target_or, normal, has_catch, is_jump, operands_of, blocks_in}
 use Rattle.action_records.specs.declared.Style.{Style}
-use Rattle.action_records.specs.Fields.{Field, bits, all_bytes, all, is16, holds}
+use Rattle.action_records.specs.Fields.{bits, all_bytes, all, is16, holds}
 use Rattle.action_records.specs.Operands.{one, catch_target, ◌in-bits◌, fields}
 use Rattle.action_records.specs.Bytes.{blank}
 use Rattle.action_records.specs.Export.{is_missing, lacks_label, fields_at, is_codable, fault_at}

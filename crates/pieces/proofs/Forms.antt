@@ -1,15 +1,12 @@
 -- The forms that the grammar gives an action: which operands and blocks go with which shape. Assumes nothing.
-use mathlib.Core.Path.{◌≡◌, refl}
-use mathlib.Core.Bool.{Bool, true, false}
 use mathlib.Core.List.{List, [], ◌∷◌}
-use Prim.Native.Nat.{ℕ}
 use Rattle.shapes.specs.declared.Shape.{Shape}
 use Rattle.shapes.specs.declared.Shape.TheVariants as S
 use Rattle.shapes.specs.Shapes.{shape_of}
 use Rattle.lexemes.specs.Lexemes.{Lexeme}
 use Rattle.lexemes.specs.Operands.{Class}
 use Rattle.lexemes.specs.Events.{body, try, catch, finally}
-use Rattle.grammar.specs.Grammar.{Items, done, label, action, Blocks, no_blocks, block, Body, Takes, push, constant_pool, get_url, get_url2, goto_frame, goto_frame2, goto_frame2_bias, goto_label, jump_to, store_register, wait_for_frame, define_function, define_function2, with_block, try_plain, try_target, others, Operands, no_operand, last, comma, Level, level, Written, ends, names, acts, Block, braces, Bodies, no_body, one-body, try-body, Catch, no_catch, catches, Finally, no_finally, finishes}
+use Rattle.grammar.specs.Grammar.{Items, done, label, action, Blocks, no_blocks, block, Body, Takes, push, constant_pool, get_url, get_url2, goto_frame, goto_frame2, goto_frame2_bias, goto_label, jump_to, store_register, wait_for_frame, define_function, define_function2, with_block, try_plain, try_target, others, Operands, last, Level, level, Written, ends, names, acts, Block, braces, Bodies, no_body, one-body, try-body, Catch, no_catch, catches, Finally, no_finally, finishes}
 
 -- a record without sizes and offset
 pub data Steady : Shape → Type 0 where

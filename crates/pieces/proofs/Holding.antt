@@ -1,11 +1,10 @@
 -- The tables of a reading hold the tree of records. Assumes nothing.
 use mathlib.Core.Path.{◌≡◌, refl, ap, sym, subst, ◌∙◌}
 use mathlib.Core.Bool.{false}
-use mathlib.Core.List.{List, [], ◌∷◌, ◌++◌, map, append_assoc, append-nil}
-use mathlib.Core.Option.{none, some}
+use mathlib.Core.List.{List, [], ◌∷◌, ◌++◌, append_assoc, append-nil}
+use mathlib.Core.Option.{some}
 use Prim.Native.Nat.{ℕ, suc, ◌+◌, ◌≤◌, ◌<◌}
 use native.Mathlib.Omega.{arith}
-use lib.Dec.{eqb}
 use lib.ListN.{length, drop, length-append}
 use borrow.Author.Tests.{ne_eqb}
 use Rattle.lexemes.specs.Events.{Part, body, try, catch, finally}
@@ -14,7 +13,6 @@ use Rattle.grammar.specs.Reading as G
 use Rattle.grammar.specs.Reading.{Opened, opened_of, opened_in, opened, own_labels, Label}
 use Rattle.entries.specs.declared.Block.{Block}
 use Rattle.entries.specs.declared.Block.TheVariants as B
-use Rattle.entries.specs.declared.Level.{Level}
 use Rattle.entries.specs.Entries.{level_in}
 use Rattle.reading.specs.Tables.{part_of, block_of}
 use Rattle.reading.proofs.Trees.{opened-count, opened-counts}

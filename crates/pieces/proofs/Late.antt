@@ -2,15 +2,14 @@
 use mathlib.Core.Path.{◌≡◌, refl, ap, sym, ◌∙◌}
 use mathlib.Core.Bool.{Bool, true, false, cond, ◌&&◌, true≢false}
 use mathlib.Core.List.{List, [], ◌∷◌, ◌++◌, map}
-use mathlib.Core.Option.{Option, none, some}
-use Prim.Native.Nat.{ℕ, zero, suc, ◌+◌, ◌≤◌, ◌<◌, min}
+use mathlib.Core.Option.{none, some}
+use Prim.Native.Nat.{ℕ, suc, ◌+◌, ◌≤◌, ◌<◌, min}
 use native.Mathlib.Omega.{arith}
 use lib.Dec.{ltb, leb}
 use lib.IntN.{ℤ, sub_ℕ}
 use lib.ListN.{length, drop, length-append}
 use borrow.Author.Tests.{lt-ltb}
 use Rattle.answers.specs.Answers.{Answer, refused}
-use Rattle.names.specs.declared.ActionName.{ActionName}
 use Rattle.shapes.specs.declared.Shape.{Shape}
 use Rattle.shapes.specs.declared.Shape.TheVariants as S
 use Rattle.shapes.specs.Shapes.{shape_of}
@@ -20,7 +19,7 @@ use Rattle.grammar.specs.Grammar as G
 use Rattle.grammar.specs.Reading.{Label, own_labels}
 use Rattle.movies.specs.Movie.{Value, string, number, integer, bool, register, constant, null, undefined, position, long, missing, Blocks, no_blocks, block, ◌!◌, number_in, is_register, has}
 use Rattle.movies.specs.Counts.{all_actions, actions_inside}
-use Rattle.movies.specs.Meaning.{meaning, position_of, target_or, normal, operands_of, meaning_in, blocks_in, meaning_of}
+use Rattle.movies.specs.Meaning.{meaning, normal, operands_of, meaning_in, blocks_in, meaning_of}
 use Rattle.movies.specs.Sites.{Site, sites_from, sites_in, sites, or_fault, first_fault}
 use Rattle.action_records.specs.declared.Style.{Style}
 use Rattle.action_records.specs.Fields.{Layout, Field, UI8, UI16, bits, all, is16, is_signed16, holds_laid}
@@ -28,7 +27,7 @@ use Rattle.action_records.specs.Fields as F
 use Rattle.action_records.specs.Operands.{pushed_as, pushed, text, parameters, catch_target, ◌in-bits◌, flag, fields}
 use Rattle.action_records.specs.Bytes as R
 use Rattle.action_records.specs.Export.{lacks_label, fields_at, late_fault_at}
-use Rattle.filling.specs.Pieces.{Piece, Tree, size, offset, nobody, far_jump, far_from, big_from, big_in, late}
+use Rattle.filling.specs.Pieces.{Piece, size, nobody, far_jump, far_from, big_from, big_in, late}
 use Rattle.pieces.proofs.Forms.{Steady, nothing, values, strings, string_string, bool_bool_u8, u16, bool_bool_maybe_u16, string as ofString, u8, u16_u8, Bodied, function, function2, with_block_lem, Form, steady, jump, bodied, try-only, try-finally, try-catch, try-all, Forms, FormsIn}
 use Rattle.pieces.proofs.Trees.{aim_at, aim_of, tree_in_lem, trees_in, tree_of, size_is}
 use Rattle.pieces.proofs.Records.{Aims, found, lost, aims, before}

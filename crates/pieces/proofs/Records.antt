@@ -1,12 +1,11 @@
 -- A record with its sizes and its offset filled in is SWF19's. Assumes nothing.
 use mathlib.Core.Path.{◌≡◌, refl, ap, sym, ◌∙◌}
 use mathlib.Core.Bool.{Bool, true, false, cond, true≢false}
-use mathlib.Core.List.{List, [], ◌∷◌, ◌++◌, map, append_assoc, append-nil}
-use mathlib.Core.Logic.{◌⊎◌, inl, inr}
+use mathlib.Core.List.{List, [], ◌∷◌, ◌++◌, map, append_assoc}
 use Prim.Native.Nat.{ℕ, zero, suc, ◌+◌, ◌-◌, ◌/◌, ◌%◌}
 use native.Mathlib.Omega.{arith}
 use lib.Dec.{leb}
-use lib.IntN.{ℤ, pos}
+use lib.IntN.{ℤ}
 use lib.ListN.{length, drop, length-append}
 use lib.Seq.{sets}
 use Rattle.names.specs.declared.ActionName.{ActionName}
@@ -17,8 +16,8 @@ use Rattle.lexemes.specs.Lexemes.{Lexeme, raw, same_name}
 use Rattle.lexemes.specs.Events.{Part, body, try, catch, finally}
 use Rattle.grammar.specs.Grammar as G
 use Rattle.grammar.specs.Reading.{Label, own_labels}
-use Rattle.movies.specs.Movie.{Value, string, number, integer, bool, register, constant, null, undefined, position, long, missing, Blocks, ◌!◌, number_in, is_register, has}
-use Rattle.movies.specs.Meaning.{meaning, position_of, target_or, normal, operands_of, meaning_in, blocks_in}
+use Rattle.movies.specs.Movie.{Value, string, number, integer, bool, register, constant, null, undefined, position, long, missing, ◌!◌, number_in, is_register, has}
+use Rattle.movies.specs.Meaning.{meaning, position_of, normal, operands_of, meaning_in, blocks_in}
 use Rattle.action_records.specs.declared.Style.{Style}
 use Rattle.action_records.specs.Codes.{listed}
 use Rattle.action_records.specs.Fields.{Layout, Field, UI8, UI16, bits, bytes_of, all_bytes, low_first, two's_complement}
@@ -28,8 +27,8 @@ use Rattle.action_records.specs.Bytes as R
 use Rattle.action_records.specs.Bytes.{with_length, blank, record_of, fields_of}
 use Rattle.action_records.specs.Export.{lacks_label}
 use Rattle.action_records.proofs.Listed.{Empty, long-code}
-use Rattle.coding.specs.Heads.{head_fields, head_of}
-use Rattle.filling.specs.Pieces.{Piece, size, with16, with_flag, with_blocks}
+use Rattle.coding.specs.Heads.{head_of}
+use Rattle.filling.specs.Pieces.{size, with16, with_flag, with_blocks}
 use Rattle.pieces.proofs.Forms.{Steady, nothing, values, strings, string_string, bool_bool_u8, u16, bool_bool_maybe_u16, string as ofString, u8, u16_u8, Bodied, function, function2, with_block_lem, Form, steady, jump, bodied, try-only, try-finally, try-catch, try-all}
 use Rattle.pieces.proofs.Trees.{aim_at, aim_of, tree_in_lem, trees_in, act_of, size_is}
 

@@ -1,9 +1,8 @@
 -- The tree of records of a text's tree. Its sizes and positions are those of the text's movie. Assumes nothing.
 use mathlib.Core.Path.{◌≡◌, refl, ap, sym, ◌∙◌}
 use mathlib.Core.Bool.{Bool, true, false, cond}
-use mathlib.Core.List.{List, [], ◌∷◌, ◌++◌, map}
+use mathlib.Core.List.{List, [], ◌∷◌, map}
 use Prim.Native.Nat.{ℕ, zero, suc, ◌+◌}
-use lib.Dec.{leb}
 use lib.ListN.{length}
 use Rattle.names.specs.declared.ActionName.{ActionName}
 use Rattle.shapes.specs.declared.Shape.{Shape}
@@ -13,11 +12,11 @@ use Rattle.lexemes.specs.Lexemes.{Lexeme, raw}
 use Rattle.lexemes.specs.Events.{Part}
 use Rattle.grammar.specs.Grammar as G
 use Rattle.grammar.specs.Reading.{Label, own_labels}
-use Rattle.movies.specs.Movie.{Value, string, number, integer, bool, register, constant, null, undefined, position, long, missing, Level, done, action, Blocks, no_blocks, block, Act, Movie, ◌!◌, has}
+use Rattle.movies.specs.Movie.{Value, string, number, integer, bool, register, constant, null, undefined, position, long, missing, done, action, Blocks, no_blocks, block, Act, ◌!◌, has}
 use Rattle.movies.specs.Meaning.{meaning, position_of, target_or, normal, has_catch, is_jump, operands_of, meaning_in, blocks_in}
 use Rattle.action_records.specs.declared.Style.{Style}
 use Rattle.action_records.specs.Codes.{listed}
-use Rattle.action_records.specs.Fields.{Field, all_bytes}
+use Rattle.action_records.specs.Fields.{all_bytes}
 use Rattle.action_records.specs.Operands.{fields}
 use Rattle.action_records.specs.Bytes as R
 use Rattle.action_records.specs.Bytes.{with_length, blank, fields_of, record_of}
