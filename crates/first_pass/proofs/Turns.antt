@@ -2,7 +2,7 @@
 use mathlib.Core.Path.{◌≡◌, refl, ap, sym, ◌∙◌}
 use mathlib.Core.Bool.{Bool, true, false, cond, ◌&&◌}
 use mathlib.Core.List.{List}
-use Prim.Native.Nat.{ℕ, zero, suc, ◌+◌, ◌-◌, ◌≤◌, ◌<◌}
+use Prim.Native.Nat.{ℕ, suc, ◌+◌, ◌-◌, ◌≤◌, ◌<◌}
 use native.Mathlib.Omega.{arith}
 use native.Mathlib.Numerals.{add-one}
 use lib.Dec.{eqb}
@@ -18,7 +18,6 @@ use Rattle.movies.specs.Meaning.{is_jump}
 use Rattle.action_records.specs.declared.Style.{Style}
 use Rattle.coding.specs.Heads.{operands_at, head_holds}
 use Rattle.jumps.specs.Aims.{aim_at}
-use Rattle.first_pass.specs.declared.Fault.{Fault}
 use Rattle.first_pass.specs.First.{first_from}
 use Rattle.first_pass.specs.Faults.{fault_of, aim_for, fault_for, Aimed}
 

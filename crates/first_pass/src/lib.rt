@@ -1,5 +1,6 @@
 // The first pass of faults of export: the first action whose jump has no label in its level, or whose record cannot be coded.
 #![tactic(auto)]
+
 ghost use Rattle.std.specs.Prelude.{◌≡◌, ◌&&◌, ◌≤◌, ◌<◌, eqb, length};
 ghost use Rattle.shapes.specs.Shapes.{shape_of};
 ghost use Rattle.classes.specs.Lexemes.{Sound};
