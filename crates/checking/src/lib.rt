@@ -1,5 +1,6 @@
 // Checking a text: it is read into held tables that go by its length, and only the answer is left.
 #![tactic(auto)]
+
 ghost use Rattle.std.specs.Prelude.{[], ◌∷◌, ◌≤◌, length};
 ghost use Rattle.checking.specs.Checks.{Checks};
 
