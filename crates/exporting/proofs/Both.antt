@@ -3,22 +3,19 @@ use mathlib.Core.Path.{◌≡◌, refl, ap, sym, subst, ◌∙◌}
 use mathlib.Core.Bool.{Bool, true, false, cond, ◌&&◌}
 use mathlib.Core.List.{List}
 use mathlib.Core.Logic.{◌⊎◌, inl, inr}
-use Prim.Native.Nat.{ℕ, zero, suc, ◌≤◌, ◌<◌}
+use Prim.Native.Nat.{ℕ, zero, suc}
 use native.Mathlib.Omega.{arith}
-use lib.Dec.{eqb, ltb, leb}
+use lib.Dec.{eqb, ltb}
 use lib.ListN.{length, get_or}
-use lib.Seq.{sets}
 use borrow.Author.Tests.{ltb-true, ltb-false, le-leb, lt-leb}
 use Rattle.answers.specs.declared.Refusal.TheVariants as F
-use Rattle.answers.specs.Answers.{Answer, accepted, refused, refusal}
+use Rattle.answers.specs.Answers.{accepted, refused}
 use Rattle.shapes.specs.Shapes.{shape_of}
 use Rattle.lexemes.specs.Lexemes.{numbered}
 use Rattle.grammar.specs.Grammar.{Items, Text}
 use Rattle.grammar.proofs.Unique.{one-tree}
-use Rattle.entries.specs.declared.Action.{Action}
 use Rattle.entries.specs.Entries.{action_of, level_in}
 use Rattle.labels.specs.Index.{Distinct}
-use Rattle.reading.specs.Tables.{front}
 use Rattle.reading.proofs.Sets.{at_front}
 use Rattle.classes.specs.Lexemes.{Sound}
 use Rattle.action_records.specs.declared.Style.{Style}
@@ -35,7 +32,7 @@ use Rattle.exporting.specs.declared.Passed.{Passed}
 use Rattle.exporting.specs.declared.Passed.TheVariants as P
 use Rattle.first_pass.specs.First.{first_from}
 use Rattle.first_pass.specs.Faults.{fault_of, aim_for, fault_for, Aimed}
-use Rattle.exporting.specs.Passes.{second_of, left, TreeGiven, Second, TreePassed, Held, Roomy, Passes, TextPassed}
+use Rattle.exporting.specs.Passes.{second_of, left, TreeGiven, Second, TreePassed, Held, Roomy, Passes}
 use Rattle.exporting.proofs.Tabled.{tree, fits, sound}
 use Rattle.exporting.proofs.Spotted.{after, all-labels}
 use Rattle.exporting.proofs.Whole.{refused-first, asked, bytes, bytes-long, answered}

@@ -8,7 +8,7 @@ use native.Mathlib.Omega.{arith}
 use lib.Dec.{eqb}
 use lib.ListN.{length}
 use borrow.Author.Tests.{eq-eqb, ne_eqb}
-use Rattle.answers.specs.Answers.{Answer, refused}
+use Rattle.answers.specs.Answers.{Answer}
 use Rattle.movies.specs.Sites.{Site, or_fault, first_fault}
 use Rattle.first_pass.specs.declared.Fault.{Fault}
 use Rattle.first_pass.specs.First.{first_from}

@@ -6,17 +6,15 @@ use Prim.Native.Nat.{ℕ, ◌≤◌, ◌<◌}
 use native.Mathlib.Omega.{arith}
 use lib.Dec.{ltb}
 use lib.ListN.{length}
-use lib.Seq.{sets}
 use borrow.Author.Tests.{lt-ltb, le-ltb}
 use Rattle.answers.specs.declared.Refusal.TheVariants as F
 use Rattle.entries.specs.Entries.{level_in}
 use Rattle.action_records.specs.declared.Style.{Style}
 use Rattle.writer.specs.declared.At.{At}
-use Rattle.filling.specs.Pieces.{Tree, size, bytes_from, nobody, late}
-use Rattle.writer.specs.Writing.{Tables, AskedLevel, WroteLevel, LevelGiven, LevelWritten}
-use Rattle.exporting.specs.declared.Passed.{Passed}
+use Rattle.filling.specs.Pieces.{Tree, size, nobody, late}
+use Rattle.writer.specs.Writing.{Tables, AskedLevel, LevelGiven, LevelWritten}
 use Rattle.exporting.specs.declared.Passed.TheVariants as P
-use Rattle.exporting.specs.Passes.{second_of, TreeGiven, Second, TreePassed}
+use Rattle.exporting.specs.Passes.{second_of, TreeGiven, TreePassed}
 
 -- the scratch may hold anything
 other_place : {T : Tables} {y : Style} {l : Tree} {n a m : ℕ} {place place' : List ℕ} → length place' ≡ length place → AskedLevel T y l n a m place → AskedLevel T y l n a m place'

@@ -1,29 +1,25 @@
 -- What the tables tell of each action of the tree, and the first pass of faults. Assumes nothing.
 use mathlib.Core.Path.{◌≡◌, refl, ap, sym, subst, ◌∙◌}
 use mathlib.Core.Bool.{Bool, true, false, cond, ◌&&◌}
-use mathlib.Core.List.{List, [], ◌∷◌, ◌++◌, map}
-use mathlib.Core.Option.{Option, none, some}
-use Prim.Native.Nat.{ℕ, zero, suc, ◌+◌, ◌<◌}
+use mathlib.Core.List.{List, [], ◌∷◌, map}
+use mathlib.Core.Option.{none, some}
+use Prim.Native.Nat.{ℕ, zero, suc, ◌<◌}
 use native.Mathlib.Omega.{arith}
 use lib.Dec.{eqb}
-use lib.ListN.{length, drop, take, get_or, length-map}
+use lib.ListN.{length, drop, take, get_or}
 use lib.Seq.{take-length}
-use Rattle.names.specs.declared.ActionName.{ActionName}
 use Rattle.shapes.specs.declared.Shape.{Shape}
-use Rattle.shapes.specs.declared.Shape.TheVariants as S
 use Rattle.shapes.specs.Shapes.{shape_of}
 use Rattle.lexemes.specs.Lexemes.{Lexeme, raw}
 use Rattle.grammar.specs.Grammar.{Items, Blocks}
-use Rattle.grammar.specs.Reading.{Acted, Opened, opened, acted_of, own_labels}
+use Rattle.grammar.specs.Reading.{Acted, Opened, opened, own_labels}
 use Rattle.entries.specs.declared.Action.{Action}
 use Rattle.entries.specs.Entries.{action_of}
 use Rattle.reading.specs.Tables.{label_entry_word}
 use Rattle.reading.proofs.Runs.{Every}
 use Rattle.handover.specs.declared.Counts.{Counts}
-use Rattle.handover.specs.Reading.{Tables, lent, Accepts}
-use Rattle.movies.specs.Movie.{Value}
+use Rattle.handover.specs.Reading.{lent, Accepts}
 use Rattle.movies.specs.Meaning.{is_jump, position_of}
-use Rattle.movies.specs.Sites.{Site}
 use Rattle.action_records.specs.declared.Style.{Style}
 use Rattle.action_records.specs.Export.{fault_at}
 use Rattle.coding.specs.Heads.{operands_at, head_holds}
@@ -33,8 +29,8 @@ use Rattle.jumps.proofs.Accepted.{After}
 use Rattle.jumps.proofs.Actions.{aims-at}
 use Rattle.pieces.proofs.Forms.{nothing, values, strings, string_string, bool_bool_u8, u16, bool_bool_maybe_u16, string, u8, u16_u8, function, function2, with_block_lem, Form, steady, jump, bodied, try-only, try-finally, try-catch, try-all}
 use Rattle.pieces.proofs.Trees.{aim_at, aim_of}
-use Rattle.pieces.proofs.Early.{early, early_is}
-use Rattle.pieces.proofs.Spots.{Spot, spots, acted_at, acted_are, site_of, LevelOf, Right, right, one_more}
+use Rattle.pieces.proofs.Early.{early_is}
+use Rattle.pieces.proofs.Spots.{Spot, spots, acted_at, acted_are, site_of, Right, right, one_more}
 use Rattle.first_pass.specs.Faults.{fault_of, aim_for, fault_for}
 use Rattle.exporting.proofs.Entries.{before, entry_of, inside}
 use Rattle.exporting.proofs.Tabled.{none as noTables, tree, fits, its_forms, acts, entry_told, operands-told, labels-counted}

@@ -1,13 +1,11 @@
 -- What the tables of an accepted reading tell of its tree, if they hold the reading and nothing more. Assumes nothing.
 use mathlib.Core.Path.{◌≡◌, refl, ap, sym, subst, ◌∙◌}
-use mathlib.Core.Bool.{Bool, false, cond}
+use mathlib.Core.Bool.{Bool, cond}
 use mathlib.Core.List.{List, [], ◌∷◌, ◌++◌, map, append-nil}
 use Prim.Native.Nat.{ℕ, zero, suc, ◌+◌, ◌*◌, ◌/◌, ◌≤◌, ◌<◌}
 use native.Mathlib.Omega.{arith}
-use lib.Dec.{ltb}
 use lib.ListN.{length, drop, get_or, length-map}
 use borrow.Author.Tests.{le-ltb}
-use Rattle.tokens.specs.declared.Token.{Token}
 use Rattle.tokens.specs.Tokens.{word_of}
 use Rattle.lexer.proofs.Sound.{all_whole}
 use Rattle.lexer.proofs.Theorems as lexer
@@ -16,7 +14,6 @@ use Rattle.grammar.specs.Grammar.{Items, Text}
 use Rattle.grammar.specs.Reading as G
 use Rattle.grammar.specs.Reading.{Opened, Acted, opened_of, opened, acted_of, operands_from, reading_of}
 use Rattle.grammar.specs.Nets.{Net}
-use Rattle.entries.specs.declared.Action.{Action}
 use Rattle.entries.specs.declared.Operand.{Operand}
 use Rattle.entries.specs.declared.Block.TheVariants as B
 use Rattle.entries.specs.declared.Level.{Level}

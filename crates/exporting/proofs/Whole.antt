@@ -3,22 +3,19 @@ use mathlib.Core.Path.{◌≡◌, refl, ap, sym, subst, ◌∙◌}
 use mathlib.Core.Bool.{Bool, true, false, cond, ◌&&◌, true≢false}
 use mathlib.Core.List.{List, [], ◌∷◌, ◌++◌, map}
 use mathlib.Core.Option.{Option, none, some}
-use Prim.Native.Nat.{ℕ, zero, suc, ◌+◌, ◌*◌, ◌≤◌, ◌<◌}
+use Prim.Native.Nat.{ℕ, suc, ◌+◌, ◌*◌, ◌≤◌, ◌<◌}
 use native.Mathlib.Omega.{arith}
-use lib.Dec.{leb, ltb}
+use lib.Dec.{leb}
 use lib.ListN.{length, drop, get_or, length-map}
 use borrow.Author.Tests.{ltb-true}
 use Rattle.answers.specs.Answers.{Answer, refused}
-use Rattle.grammar.specs.Reading as G
-use Rattle.grammar.specs.Reading.{opened_of, opened, own_labels}
+use Rattle.grammar.specs.Reading.{opened_of, own_labels}
 use Rattle.entries.specs.declared.Action.{Action}
-use Rattle.entries.specs.Entries.{action_of, level_in}
+use Rattle.entries.specs.Entries.{level_in}
 use Rattle.reading.specs.Tables.{label_entry_word}
 use Rattle.reading.proofs.Runs.{Every}
 use Rattle.handover.specs.declared.Counts.{Counts}
 use Rattle.handover.specs.Reading.{lent, Accepts}
-use Rattle.movies.specs.Movie.{Blocks}
-use Rattle.movies.specs.Counts.{all_actions, levels_of}
 use Rattle.movies.specs.Meaning.{meaning_in, meaning_of}
 use Rattle.movies.specs.Sites.{Site, sites, or_fault, first_fault}
 use Rattle.action_records.specs.declared.Style.{Style}
@@ -35,11 +32,11 @@ use Rattle.pieces.proofs.Bytes.{Labelled, bytes_are}
 use Rattle.pieces.proofs.Late.{or_refused, late_is}
 use Rattle.pieces.proofs.Early.{codable-is}
 use Rattle.pieces.proofs.Fits as Fits
-use Rattle.pieces.proofs.Spots.{Spot, spots, site_of, sites_are, acted_are, acted_at, head_bytes, size_of, one_more}
+use Rattle.pieces.proofs.Spots.{Spot, spots, site_of, sites_are, acted_are, acted_at, head_bytes, size_of}
 use Rattle.pieces.proofs.Holding as Holding
 use Rattle.first_pass.specs.First.{first_from}
 use Rattle.first_pass.specs.Faults.{aim_for, fault_for}
-use Rattle.exporting.proofs.Entries.{entry_of, inside}
+use Rattle.exporting.proofs.Entries.{inside}
 use Rattle.exporting.proofs.Tabled.{tree, its_forms, sound, tells_levels, levels-long, actions-counted, few}
 use Rattle.exporting.proofs.Tabled as Tabled
 use Rattle.exporting.proofs.First.{told_by, or_first, Tells, first-is, none_first}

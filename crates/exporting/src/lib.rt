@@ -1,5 +1,6 @@
 // Export over the tables of a reading: two passes of faults, then the bytes.
 #![tactic(auto)]
+
 ghost use Rattle.writer.specs.Writing.{tables};
 ghost use Rattle.exporting.specs.Passes.{TreeGiven, TreePassed, Held, Roomy, TextPassed};
 
