@@ -18,6 +18,19 @@ fn print_refused(rt: HostRuntime, name: &[u8], text: &[u8], tokens: &mut [u64; 6
     reporting::print_refused_at(rt, Stream::Errors, name, text, tokens, r);
 }
 
+fn export_into(
+    text: &[u8],
+    tokens: &mut [u64; 65536],
+    actions: &mut [u64; 32769],
+    operands: &mut [u64; 32769],
+    levels: &mut [u64; 65538],
+    labels: &mut [u64; 32769],
+    style: Style,
+    out: &mut [u8; 655360],
+) -> Exporting {
+    export::export(text, tokens, actions, operands, levels, labels, style, out)
+}
+
 // Answers the status. An entry of each table but the tokens' takes two bytes of text or more, the top level none. That of a level has two
 // words. A movie has at most ten bytes for each byte of its text.
 fn export_text(rt: HostRuntime, name: &[u8], text: &[u8], style: Style) -> u64 {
@@ -27,7 +40,7 @@ fn export_text(rt: HostRuntime, name: &[u8], text: &[u8], style: Style) -> u64 {
     let mut levels = [0u64; 65538];
     let mut labels = [0u64; 32769];
     let mut out = [0u8; 655360];
-    let exporting = export::export(
+    let exporting = export_into(
         text,
         &mut tokens,
         &mut actions,
