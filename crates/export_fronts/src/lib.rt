@@ -2,6 +2,7 @@
 // check of such a program does not go through what `export` promises. With it what those programs look at afterwards: marked
 // tables and outputs, and whether two hold the same.
 #![tactic(auto)]
+
 use action_records::Style;
 use export::Exporting;
 use fronts::{Lent, least};
