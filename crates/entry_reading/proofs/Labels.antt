@@ -56,21 +56,23 @@ module _ {room : ℕ} {ps text : List ℕ} {x y : Tables ℕ} {c : Counts} (a : 
 -- ---- the hand-over
 
 module _ (text tk ac op lv ws tk' ac' op' lv' ws' : List ℕ) (ls : List Label) where
-  pub enough : (r : Reading) → ReadsScratch (length ls) text (lent tk ac op lv ws) (lent tk' ac' op' lv' ws') r → (label_count r ≤ length ws') × (label_count r ≤ length ls)
+  pub enough : (r : Reading) {n : ℕ} → n ≡ label_count r → ReadsScratch (length ls) text (lent tk ac op lv ws) (lent tk' ac' op' lv' ws') r
+      → (n ≤ length ws') × (n ≤ length ls)
   unfolding ReadsScratch
-  enough (R.Read c) a = (inside (labels_fill a), labels_fit a)
-  enough (R.Refused r) a = (omega arith, omega arith)
+  enough (R.Read c) e a = (omega (arith, e, inside (labels_fill a)), omega (arith, e, labels_fit a))
+  enough (R.Refused r) e a = (omega (arith, e), omega (arith, e))
 
-  pub handed : (r : Reading) {ls' : List Label} → ReadsScratch (length ls) text (lent tk ac op lv ws) (lent tk' ac' op' lv' ws') r
-      → ls' ≡ map label_of (take (label_count r) ws') ++ drop (label_count r) ls → Reads label_entry text (lent tk ac op lv ls) (lent tk' ac' op' lv' ls') r
+  pub handed : (r : Reading) {n : ℕ} {ls' : List Label} → n ≡ label_count r → ReadsScratch (length ls) text (lent tk ac op lv ws) (lent tk' ac' op' lv' ws') r
+      → ls' ≡ map label_of (take n ws') ++ drop n ls → Reads label_entry text (lent tk ac op lv ls) (lent tk' ac' op' lv' ls') r
   unfolding ReadsScratch Reads
-  handed (R.Read c) {ls'} a e =
+  handed (R.Read c) {n} {ls'} n-is a e =
       let es = map label_entry a.reading.labels in
       let made : ls' ≡ front es ls =
-      e ∙ ap (λ (l : List Label). l ++ drop c.labels ls) (labels_back a)
-      ∙ ap (λ (n : ℕ). es ++ drop n ls) (ap (λ (k : Counts). k.labels) a.counts ∙ sym (length-map a.reading.labels label_entry)) in
+      e ∙ ap (λ (m : ℕ). map label_of (take m ws') ++ drop m ls) n-is ∙ ap (λ (l : List Label). l ++ drop c.labels ls) (labels_back a)
+      ∙ ap (λ (m : ℕ). es ++ drop m ls) (ap (λ (k : Counts). k.labels) a.counts ∙ sym (length-map a.reading.labels label_entry)) in
       refilled a (λ i. record { tokens = (a.tables i).tokens; actions = (a.tables i).actions; operands = (a.tables i).operands; levels = (a.tables i).levels; labels = made i })
-  handed (R.Refused r) a e = (
-    a.0,
-    λ i. record { tokens = (a.1 i).tokens; actions = (a.1 i).actions; operands = (a.1 i).operands; levels = (a.1 i).levels; labels = e i },
-  )
+  handed (R.Refused r) {n} {ls'} n-is a e =
+      let same : ls' ≡ ls = e ∙ ap (λ (m : ℕ). map label_of (take m ws') ++ drop m ls) n-is in (
+        a.0,
+        λ i. record { tokens = (a.1 i).tokens; actions = (a.1 i).actions; operands = (a.1 i).operands; levels = (a.1 i).levels; labels = same i },
+      )

@@ -1,4 +1,1 @@
 pub mod Labels
-pub mod Array
-pub mod Answer
-pub mod Scratch

@@ -1,5 +1,6 @@
 // Reading where the label table is a lent slice of label entries: thin functions over `as2_pcode::read`.
 #![tactic(auto)]
+
 ghost use Rattle.std.specs.Prelude.{◌≡◌, ◌≤◌, length};
 ghost use Rattle.reading.specs.Tables.{label_entry};
 ghost use Rattle.handover.specs.Reading.{Reads, lent};
