@@ -1,5 +1,6 @@
 // Export over scratch of the reading's size.
 #![tactic(auto)]
+
 ghost use Rattle.std.specs.Prelude.{◌+◌, ◌≤◌, length};
 ghost use Rattle.exporting.specs.Passes.{Held, TextPassed};
 

@@ -1,0 +1,10 @@
+-- `export_scratch::export_4096` meets its contract. Assumes nothing.
+use borrow.Author.Rules.{rules}
+use native.Mathlib.Omega.{arith}
+use Rattle.export_scratch.proofs.Sizes.{roomy}
+use Rattle.export_scratch.proofs.export_4096.Goals as goal
+
+pub export_tables-requires : goal.export_tables-requires
+export_tables-requires c =
+    let p = c.requires in
+    record { held = p.held; roomy = roomy 4096 4097 4096 (omega (arith, p.labels_len_bound)) (omega (arith, p.labels_len_bound)) (omega arith) (omega (arith, p.labels_len_bound)) }
