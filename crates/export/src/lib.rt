@@ -1,5 +1,6 @@
 // Export: the movie's own bytes of a text (document 02, §2).
 #![tactic(auto)]
+
 ghost use Rattle.std.specs.Prelude.{◌≡◌, ◌≤◌, length};
 ghost use Rattle.handover.specs.Reading.{places, lent};
 ghost use Rattle.held.specs.Held.{Ample, Holds};
