@@ -1,5 +1,6 @@
 // The 100 actions by number.
 #![tactic(auto)]
+
 ghost use Rattle.std.specs.Prelude.{◌≡◌, ◌<◌};
 ghost use Rattle.actions.specs.Numbers.{number_of, action_at};
 

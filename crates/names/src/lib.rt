@@ -1,5 +1,6 @@
 // `ActionName` of lexer/tokens.rs: the 100 actions, spelled and ordered as in the Rust.
 #![tactic(auto)]
+
 #[derive(Clone, Copy)]
 pub enum ActionName {
     Add,
