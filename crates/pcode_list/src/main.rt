@@ -9,6 +9,9 @@ use answers::Refusal;
 use as2_pcode::Reading;
 use files::Input;
 
+// How many bytes of a text are listed.
+const MOST: usize = 4096;
+
 // Reads a text of at most 4,096 bytes into tables that hold any such text.
 fn read_listed(
     text: &[u8],
@@ -21,7 +24,7 @@ fn read_listed(
     ensures listed { Listed text.now (lent tokens.old actions.old operands.old levels.old labels.old) (lent tokens.new actions.new operands.new levels.new labels.new) result }
     ensures never_short { NeverShort result }
 {
-    if 4096 < text.len() {
+    if MOST < text.len() {
         return Reading::Refused(Refusal::TooLong);
     }
     as2_pcode::read(text, tokens, actions, operands, levels, labels)

@@ -7,12 +7,12 @@ use native.Mathlib.Omega.{arith}
 use Rattle.pcode_list.proofs.Ample.{never_short}
 use Rattle.pcode_list.proofs.read_listed.Goals as goal
 
-pub returns-then-text-gt4096 : goal.returns-then-text-gt4096
-returns-then-text-gt4096 c = record { listed = record { long = λ h. (refl, refl); reads = λ h. absurd (omega (arith, h, c.if-text-gt4096.true)) }; never_short = (λ e. omega (arith, e), λ e. omega (arith, e)) }
+pub returns-then-text-gt-MOST : goal.returns-then-text-gt-MOST
+returns-then-text-gt-MOST c = record { listed = record { long = λ h. (refl, refl); reads = λ h. absurd (omega (arith, h, c.if-text-gt-MOST.true)) }; never_short = (λ e. omega (arith, e), λ e. omega (arith, e)) }
 
 pub returns : goal.returns
 returns c =
-    let few = c.if-text-gt4096.false in
+    let few = c.if-text-gt-MOST.false in
     let sized = c.read-arg-1.given.0.1 in record {
       listed = record { long = λ h. absurd (omega (arith, h, few)); reads = λ h. c.read.ensures };
       never_short = never_short _ _ _ _ 4097 (omega (arith, few, sized)) (omega (arith, few)) c.read-arg-2-1.given.0.1
