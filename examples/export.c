@@ -1,6 +1,6 @@
 /* Writes the movie bytes of a p-code patch, SWF19's action records, to standard output.
  *
- *     rt staticlib pcode_c
+ *     scripts/staticlib
  *     gcc -std=c99 -O2 -I include -o export examples/export.c -L target/staticlib -lpcode_c
  *     ./export [FILE]        reads FILE, or standard input
  *

@@ -1,6 +1,6 @@
 /* Prints the labels of a p-code patch, one to a line: label LEVEL NAME POSITION.
  *
- *     rt staticlib pcode_c
+ *     scripts/staticlib
  *     gcc -std=c99 -O2 -I include -o labels examples/labels.c -L target/staticlib -lpcode_c
  *     ./labels [FILE]        reads FILE, or standard input
  *

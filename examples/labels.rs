@@ -1,6 +1,6 @@
 //! Prints the labels of a p-code patch, one to a line: label LEVEL NAME POSITION. Rust, edition 2024, with no crates:
 //!
-//!     rt staticlib pcode_c
+//!     scripts/staticlib
 //!     rustc --edition 2024 -O -o labels examples/labels.rs -L target/staticlib -l static=pcode_c
 //!     ./labels [FILE]        reads FILE, or standard input
 //!

@@ -1,6 +1,6 @@
 /* Prints the names of all actions, a line each: NUMBER NAME.
  *
- *     rt staticlib pcode_c
+ *     scripts/staticlib
  *     gcc -std=c99 -O2 -I include -o names examples/names.c -L target/staticlib -lpcode_c
  */
 #include <stdint.h>

@@ -1,4 +1,4 @@
-/* The p-code reader for C. Link libpcode_c.a (`rt staticlib pcode_c`) and the C library, nothing else.
+/* The p-code reader for C. Link libpcode_c.a (`scripts/staticlib`) and the C library, nothing else.
  *
  *     size_t n = text_len + 2;     // tables of as many words hold any reading of the text
  *     uint64_t out[5], label[3], token[5];

@@ -1,5 +1,6 @@
 // How C asks for an export, and what it is told of one: its numbers in a `told` array.
 #![tactic(auto)]
+
 ghost use Rattle.std.specs.Prelude.{◌≡◌};
 ghost use Rattle.c_export.specs.Telling.{style_with, export_number, export_after};
 

@@ -1,6 +1,7 @@
 // The calls for C and Rust, as include/pcode.h documents them. Each calls a public function and tells C what that answered.
 // A slice passes as a pointer and a length; an answer is a refusal's number, or 0, and what it carries goes to `out`.
 #![tactic(auto)]
+
 ghost use Rattle.std.specs.Prelude.{◌≡◌, length};
 ghost use Rattle.actions.specs.Numbers.{action_at};
 ghost use Rattle.handover.specs.Reading.{lent};
