@@ -269,11 +269,13 @@ static void call_value(void)
             pcode_value((const uint8_t *)raw[i], strlen(raw[i]), kind * 65536, 0, strlen(raw[i]), integer, out);
 }
 
-/* ---- the limits, in bytes of stack: what was measured on x86-64, and some ten percent more. Those of the worst texts are what
- * include/pcode.h promises, and stand there; an ordinary text's are lower. */
+/* ---- the limits, in bytes of stack: what was measured on x86-64 for the worst texts, and some ten percent more. They are what
+ * include/pcode.h promises, and stand there. */
 
 enum { SIZES = 5 };
 static const size_t sizes[SIZES] = {256, 1024, 4096, 16384, 65536};
+#define READ_LIMITS {PCODE_READ_STACK_4096, PCODE_READ_STACK_4096, PCODE_READ_STACK_4096, PCODE_READ_STACK_16384, PCODE_READ_STACK}
+#define EXPORT_LIMITS {PCODE_EXPORT_STACK_1024, PCODE_EXPORT_STACK_1024, PCODE_EXPORT_STACK_4096, PCODE_EXPORT_STACK, PCODE_EXPORT_STACK}
 #define LEX_LIMITS {PCODE_LEX_STACK_1024, PCODE_LEX_STACK_1024, PCODE_LEX_STACK_4096, PCODE_LEX_STACK, PCODE_LEX_STACK}
 
 /* A call whose stack depends on the text; no limit stands where the text has no room. */
@@ -285,36 +287,34 @@ static const struct on_text {
     uint64_t answer;
     size_t limits[SIZES];
 } on_texts[] = {
-    {"pcode_read", call_read, "ordinary lines", ordinary, 0, {88000, 88000, 88000, 376000, 1350000}},
-    {"pcode_read", call_read, "Push 1,1,..", values, 0, {88000, 88000, 88000, 376000, 1250000}},
-    {"pcode_read", call_read, "one label", one_label, 0,
-     {88000, PCODE_READ_STACK_4096, PCODE_READ_STACK_4096, PCODE_READ_STACK_16384, PCODE_READ_STACK}},
-    {"pcode_read", call_read, "distinct labels", distinct_labels, 0,
-     {88000, 88000, PCODE_READ_STACK_4096, PCODE_READ_STACK_16384, PCODE_READ_STACK}},
+    {"pcode_read", call_read, "ordinary lines", ordinary, 0, READ_LIMITS},
+    {"pcode_read", call_read, "Push 1,1,..", values, 0, READ_LIMITS},
+    {"pcode_read", call_read, "one label", one_label, 0, READ_LIMITS},
+    {"pcode_read", call_read, "distinct labels", distinct_labels, 0, READ_LIMITS},
     {"pcode_read", call_read, "nested labels", nested_labels, 0,
-     {0, 114000, PCODE_READ_STACK_4096, 484000, PCODE_READ_STACK}},
-    {"pcode_read", call_read, "many levels", many_levels, 0, {88000, 88000, 88000, 376000, 1250000}},
-    {"pcode_read", call_read, "64 nested With", nested_with, 0, {0, 114000, 114000, 400000, 1270000}},
-    {"pcode_read", call_read, "63 nested Try", nested_try, 0, {0, 0, 114000, 400000, 1270000}},
-    {"pcode_read", call_read, "refused lines", refused_lines, 6, {88000, 88000, 88000, 376000, 1250000}},
-    {"pcode_read", call_read, "refused Push 1,1,..", refused_values, 6, {88000, 88000, 88000, 376000, 1250000}},
-    {"pcode_read", call_read, "refused labels", refused_labels, 6, {88000, 88000, 88000, 376000, 1250000}},
-    {"pcode_export", call_export, "ordinary lines", ordinary, 0, {230000, 230000, 356000, 2540000, 3610000}},
-    {"pcode_export", call_export, "many actions", many_actions, 0, {230000, 230000, 356000, 3610000, 3610000}},
-    {"pcode_export", call_export, "jumps", jumps, 0, {230000, 230000, 356000, 2650000, PCODE_EXPORT_STACK}},
-    {"pcode_export", call_export, "one label", one_label, 0,
-     {230000, PCODE_EXPORT_STACK_1024, PCODE_EXPORT_STACK_4096, 3410000, PCODE_EXPORT_STACK}},
-    {"pcode_export", call_export, "distinct labels", distinct_labels, 0,
-     {230000, 230000, PCODE_EXPORT_STACK_4096, 3610000, PCODE_EXPORT_STACK}},
+     {0, PCODE_READ_STACK_4096, PCODE_READ_STACK_4096, PCODE_READ_STACK_16384, PCODE_READ_STACK}},
+    {"pcode_read", call_read, "many levels", many_levels, 0, READ_LIMITS},
+    {"pcode_read", call_read, "64 nested With", nested_with, 0,
+     {0, PCODE_READ_STACK_4096, PCODE_READ_STACK_4096, PCODE_READ_STACK_16384, PCODE_READ_STACK}},
+    {"pcode_read", call_read, "63 nested Try", nested_try, 0, {0, 0, PCODE_READ_STACK_4096, PCODE_READ_STACK_16384, PCODE_READ_STACK}},
+    {"pcode_read", call_read, "refused lines", refused_lines, 6, READ_LIMITS},
+    {"pcode_read", call_read, "refused Push 1,1,..", refused_values, 6, READ_LIMITS},
+    {"pcode_read", call_read, "refused labels", refused_labels, 6, READ_LIMITS},
+    {"pcode_export", call_export, "ordinary lines", ordinary, 0, EXPORT_LIMITS},
+    {"pcode_export", call_export, "many actions", many_actions, 0, EXPORT_LIMITS},
+    {"pcode_export", call_export, "jumps", jumps, 0, EXPORT_LIMITS},
+    {"pcode_export", call_export, "one label", one_label, 0, EXPORT_LIMITS},
+    {"pcode_export", call_export, "distinct labels", distinct_labels, 0, EXPORT_LIMITS},
     {"pcode_export", call_export, "nested labels", nested_labels, 0,
-     {0, 254000, PCODE_EXPORT_STACK_4096, 3640000, PCODE_EXPORT_STACK}},
-    {"pcode_export", call_export, "many levels", many_levels, 0, {230000, 230000, 356000, 3610000, 3610000}},
-    {"pcode_export", call_export, "64 nested With", nested_with, 0, {0, 254000, 380000, 2570000, 3430000}},
-    {"pcode_export", call_export, "63 nested Try", nested_try, 0, {0, 0, 380000, 2570000, 3430000}},
-    {"pcode_export", call_export, "refused lines", refused_lines, 6, {230000, 230000, 356000, 2540000, 3410000}},
-    {"pcode_export", call_export, "jump to nowhere", jump_to_nowhere, 10, {230000, 230000, 356000, 2650000, PCODE_EXPORT_STACK}},
-    {"pcode_export", call_export, "refused Push 1,1,..", values, 11, {0, 0, 0, 0, 3410000}},
-    {"pcode_export", call_export_short, "output too short", jumps, 12, {230000, 230000, 356000, 2650000, PCODE_EXPORT_STACK}},
+     {0, PCODE_EXPORT_STACK_1024, PCODE_EXPORT_STACK_4096, PCODE_EXPORT_STACK, PCODE_EXPORT_STACK}},
+    {"pcode_export", call_export, "many levels", many_levels, 0, EXPORT_LIMITS},
+    {"pcode_export", call_export, "64 nested With", nested_with, 0,
+     {0, PCODE_EXPORT_STACK_1024, PCODE_EXPORT_STACK_4096, PCODE_EXPORT_STACK, PCODE_EXPORT_STACK}},
+    {"pcode_export", call_export, "63 nested Try", nested_try, 0, {0, 0, PCODE_EXPORT_STACK_4096, PCODE_EXPORT_STACK, PCODE_EXPORT_STACK}},
+    {"pcode_export", call_export, "refused lines", refused_lines, 6, EXPORT_LIMITS},
+    {"pcode_export", call_export, "jump to nowhere", jump_to_nowhere, 10, EXPORT_LIMITS},
+    {"pcode_export", call_export, "refused Push 1,1,..", values, 11, {0, 0, 0, 0, PCODE_EXPORT_STACK}},
+    {"pcode_export", call_export_short, "output too short", jumps, 12, EXPORT_LIMITS},
     {"pcode_lex", call_lex, "ordinary lines", ordinary, 0, LEX_LIMITS},
     {"pcode_lex", call_lex, "Push 1,1,..", values, 0, LEX_LIMITS},
     {"pcode_lex", call_lex, "distinct labels", distinct_labels, 0, LEX_LIMITS},
@@ -329,7 +329,7 @@ static const struct small {
     {"pcode_token", call_token, 64},   {"pcode_action", call_action, 64}, {"pcode_operand", call_operand, 64},
     {"pcode_level", call_level, 96},   {"pcode_label", call_label, 64},   {"pcode_raw_text", call_raw_text, 64},
     {"pcode_delta", call_delta, 540},  {"pcode_value", call_value, 600},  {"pcode_action_name", call_action_name, PCODE_OTHER_STACK},
-    {"pcode_line_column", call_line_column, 64},
+    {"pcode_line_column", call_line_column, 80},
 };
 
 /* ---- measuring */

@@ -18,6 +18,7 @@ fn print_refused(rt: HostRuntime, name: &[u8], text: &[u8], tokens: &mut [u64; 6
     reporting::print_refused_at(rt, Stream::Errors, name, text, tokens, r);
 }
 
+// A parameter that is an array has its length by its type, so lending it on asks no proof.
 fn export_into(
     text: &[u8],
     tokens: &mut [u64; 65536],
