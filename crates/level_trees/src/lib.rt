@@ -7,6 +7,17 @@ ghost use Rattle.level_trees.specs.Held.{is_block_of};
 
 use entries::{Block, level_in};
 
+// A text and the tables of its reading, shared. What walks them takes this one value (the writer, the passes of export).
+#[derive(Clone, Copy)]
+pub struct Source<'a> {
+    pub text: &'a [u8],
+    pub tokens: &'a [u64],
+    pub actions: &'a [u64],
+    pub operands: &'a [u64],
+    pub levels: &'a [u64],
+    pub labels: &'a [u64],
+}
+
 fn owned_by(block: Block, action: usize) -> bool
     ensures { result ≡ is_block_of block action }
 {
