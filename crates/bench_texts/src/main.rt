@@ -5,7 +5,6 @@
 
 use as2_pcode::{Counts, Reading};
 use fronts::{Lent, least};
-use numbers::Natural;
 use printing::{print_bits, print_number, print_refusal, print_signed, print_text};
 use tokens::Token;
 use values::{PushValue, TokenValue};
@@ -57,15 +56,15 @@ fn print_named(rt: HostRuntime, what: &[u8], n: usize) {
 }
 
 // The whole number that a double is, if it is one.
-fn whole(x: f64) -> Natural {
+fn whole(x: f64) -> Option<u64> {
     let n = std::num::saturating_f64_to_u64(x);
     if 9007199254740992 < n {
-        return Natural::Nothing;
+        return None;
     }
     if n as f64 == x {
-        return Natural::Is(n);
+        return Some(n);
     }
-    Natural::Nothing
+    None
 }
 
 // Minus zero by its sign, which no comparison shows; a whole number in digits; any other double by its bits.
@@ -76,8 +75,8 @@ fn print_double(rt: HostRuntime, x: f64) {
         return;
     }
     match whole(x) {
-        Natural::Is(n) => print_number(rt, n),
-        Natural::Nothing => print_bits(rt, bits),
+        Some(n) => print_number(rt, n),
+        None => print_bits(rt, bits),
     }
 }
 

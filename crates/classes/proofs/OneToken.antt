@@ -13,6 +13,8 @@ use mir.Val.{Fits, SFits, to_z, of_z}
 use mir.ValLaws.{to_z-of_z}
 use lib.ListN.{length, get_or}
 use borrow.Author.Tests.{ltb-true, ltb-false, lt-ltb, le-ltb, eq-eqb, ne_eqb}
+use Rattle.std.specs.Prelude.{Some, None}
+use Rattle.std.specs.Prelude as Std
 use Rattle.answers.specs.declared.Refusal.{Refusal}
 use Rattle.answers.specs.Answers.{Answer, accepted, refused}
 use Rattle.scanner.specs.Bytes.{run_of}
@@ -22,10 +24,6 @@ use Rattle.tokens.specs.declared.Span.{Span}
 use Rattle.tokens.specs.declared.Token.{Token}
 use Rattle.tokens.specs.Kinds.{code_of, is_kind}
 use Rattle.tokens.specs.Tokens.{token_of, within, part, raw_text}
-use Rattle.numbers.specs.declared.Natural.{Natural}
-use Rattle.numbers.specs.declared.Natural.TheVariants as N
-use Rattle.numbers.specs.declared.Integer.{Integer}
-use Rattle.numbers.specs.declared.Integer.TheVariants as I
 use Rattle.numbers.specs.declared.Double.{Double}
 use Rattle.numbers.specs.declared.Double.TheVariants as D
 use Rattle.numbers.specs.Integers.{is_natural, natural, integer}
@@ -55,14 +53,14 @@ kind-is s at h e = e ∙ sym (kind-inside s at h)
 -- ---- values
 
 -- bounds do not decide whether there is a value
-float_some : (d : Double) (a b : Span) → is_some (double_or_long d a) ≡ is_some (double_or_long d b)
-float_some (D.Is x) a b = refl
-float_some D.Long a b = refl
-float_some D.Nothing a b = refl
+float_some : (d : Std.Option Double) (a b : Span) → is_some (double_or_long d a) ≡ is_some (double_or_long d b)
+float_some (Some (D.Is x)) a b = refl
+float_some (Some D.Long) a b = refl
+float_some None a b = refl
 
-integer-some : (z : Integer) (v w : Option PushValue) → is_some v ≡ is_some w → is_some (integer_or z v) ≡ is_some (integer_or z w)
-integer-some (I.Is n) v w h = refl
-integer-some I.Nothing v w h = h
+integer-some : (z : Std.Option ℤ) (v w : Option PushValue) → is_some v ≡ is_some w → is_some (integer_or z v) ≡ is_some (integer_or z w)
+integer-some (Some n) v w h = refl
+integer-some None v w h = h
 
 some_anyway : (k : TokenKind) (w : List ℕ) (a b : Span) → is_some (push_value k w a) ≡ is_some (push_value k w b)
 unfolding push_value float_value integer_value
@@ -131,17 +129,17 @@ unfolding class_at integer_text
 natural-told u8 text s at = let t = token_of (get_or s at 0) in parsed_told 255 (is_kind t.kind K.Integer) (raw_text text t)
 natural-told u16 text s at = let t = token_of (get_or s at 0) in parsed_told 65535 (is_kind t.kind K.Integer) (raw_text text t)
 
-module _ {m : Class} {top : ℕ} (l : Largest m top) (text s : List ℕ) (at : ℕ) (t : Token) (r v : Natural) where
+module _ {m : Class} {top : ℕ} (l : Largest m top) (text s : List ℕ) (at : ℕ) (t : Token) (r v : Std.Option ℕ) where
   parsed_at : t ≡ token_of (get_or s at 0) → r ≡ natural top (integer_text text t) → r ≡ v → is_parsed v ≡ class_at m text s at
   parsed_at e a q = ap is_parsed (sym q ∙ a ∙ ap (λ (x : Token). natural top (integer_text text x)) e) ∙ natural-told l text s at
 
-pub natural-is : {m : Class} {top : ℕ} → Largest m top → (text s : List ℕ) (at : ℕ) (t : Token) (n : ℕ) (r : Natural)
-    → t ≡ token_of (get_or s at 0) → r ≡ natural top (integer_text text t) → r ≡ N.Is n → true ≡ class_at m text s at
-natural-is l text s at t n r e a q = parsed_at l text s at t r (N.Is n) e a q
+pub natural-is : {m : Class} {top : ℕ} → Largest m top → (text s : List ℕ) (at : ℕ) (t : Token) (n : ℕ) (r : Std.Option ℕ)
+    → t ≡ token_of (get_or s at 0) → r ≡ natural top (integer_text text t) → r ≡ Some n → true ≡ class_at m text s at
+natural-is l text s at t n r e a q = parsed_at l text s at t r (Some n) e a q
 
-pub natural-is_not : {m : Class} {top : ℕ} → Largest m top → (text s : List ℕ) (at : ℕ) (t : Token) (r : Natural)
-    → t ≡ token_of (get_or s at 0) → r ≡ natural top (integer_text text t) → r ≡ N.Nothing → false ≡ class_at m text s at
-natural-is_not l text s at t r e a q = parsed_at l text s at t r N.Nothing e a q
+pub natural-is_not : {m : Class} {top : ℕ} → Largest m top → (text s : List ℕ) (at : ℕ) (t : Token) (r : Std.Option ℕ)
+    → t ≡ token_of (get_or s at 0) → r ≡ natural top (integer_text text t) → r ≡ None → false ≡ class_at m text s at
+natural-is_not l text s at t r e a q = parsed_at l text s at t r None e a q
 
 -- ---- the class at a place
 
@@ -222,10 +220,10 @@ is-count-there text s at e = by (ltb at (length s)) refl
     by true q = ltb-true at (length s) q
     by false q = absurd (false≢true (is-count_past text s at (ltb-false at (length s) q) ∙ e))
 
-pub is-count-is : (text s : List ℕ) (at : ℕ) (t : Token) (n : ℤ) (r : Integer) → at < length s → t ≡ token_of (get_or s at 0) → r ≡ i32_of text t → r ≡ I.Is n → true ≡ is_count_at text s at
+pub is-count-is : (text s : List ℕ) (at : ℕ) (t : Token) (n : ℤ) (r : Std.Option ℤ) → at < length s → t ≡ token_of (get_or s at 0) → r ≡ i32_of text t → r ≡ Some n → true ≡ is_count_at text s at
 is-count-is text s at t n r h e a q = ap is_integer (sym q ∙ a ∙ ap (i32_of text) e) ∙ sym (is-count-inside text s at h)
 
-pub is-count-is_not : (text s : List ℕ) (at : ℕ) (t : Token) (r : Integer) → at < length s → t ≡ token_of (get_or s at 0) → r ≡ i32_of text t → r ≡ I.Nothing → false ≡ is_count_at text s at
+pub is-count-is_not : (text s : List ℕ) (at : ℕ) (t : Token) (r : Std.Option ℤ) → at < length s → t ≡ token_of (get_or s at 0) → r ≡ i32_of text t → r ≡ None → false ≡ is_count_at text s at
 is-count-is_not text s at t r h e a q = ap is_integer (sym q ∙ a ∙ ap (i32_of text) e) ∙ sym (is-count-inside text s at h)
 
 -- an i32 as the machine holds it
@@ -233,17 +231,17 @@ module _ (z : ℤ) (f : SFits w32 z) where
   kept : to_z w32 (of_z w32 z) ≡ z
   kept = to_z-of_z w32 z f
 
-  pub acts_below : lt_z (to_z w32 (of_z w32 z)) (pos 0) ≡ true → 0 ≡ acting_as (I.Is z)
+  pub acts_below : lt_z (to_z w32 (of_z w32 z)) (pos 0) ≡ true → 0 ≡ acting_as (Some z)
   acts_below e = by z (ap (λ (x : ℤ). lt_z x (pos 0)) (sym kept) ∙ e)
     where
-      by : (x : ℤ) → lt_z x (pos 0) ≡ true → 0 ≡ acting_as (I.Is x)
+      by : (x : ℤ) → lt_z x (pos 0) ≡ true → 0 ≡ acting_as (Some x)
       by (pos n) e = absurd (omega (arith, ltb-true n 0 e))
       by (negsuc n) e = refl
 
-  pub acts_above : lt_z (to_z w32 (of_z w32 z)) (pos 0) ≡ false → nat_abs (to_z w32 (of_z w32 z)) ≡ acting_as (I.Is z)
+  pub acts_above : lt_z (to_z w32 (of_z w32 z)) (pos 0) ≡ false → nat_abs (to_z w32 (of_z w32 z)) ≡ acting_as (Some z)
   acts_above e = ap nat_abs kept ∙ by z (ap (λ (x : ℤ). lt_z x (pos 0)) (sym kept) ∙ e)
     where
-      by : (x : ℤ) → lt_z x (pos 0) ≡ false → nat_abs x ≡ acting_as (I.Is x)
+      by : (x : ℤ) → lt_z x (pos 0) ≡ false → nat_abs x ≡ acting_as (Some x)
       by (pos n) e = refl
       by (negsuc n) e = absurd (true≢false e)
 
@@ -254,12 +252,12 @@ module _ (z : ℤ) (f : SFits w32 z) where
       by (pos n) g e = let h = g.sfits in (tt, record { fits = omega arith })
       by (negsuc n) g e = absurd (true≢false e)
 
-pub count-is : (text s : List ℕ) (at : ℕ) (t : Token) (z : ℤ) (r : Integer) (k : ℕ) → SFits w32 z → at < length s → t ≡ token_of (get_or s at 0) → r ≡ i32_of text t → r ≡ I.Is z →
-    k ≡ acting_as (I.Is (to_z w32 (of_z w32 z))) → k ≡ count_at text s at
+pub count-is : (text s : List ℕ) (at : ℕ) (t : Token) (z : ℤ) (r : Std.Option ℤ) (k : ℕ) → SFits w32 z → at < length s → t ≡ token_of (get_or s at 0) → r ≡ i32_of text t → r ≡ Some z →
+    k ≡ acting_as (Some (to_z w32 (of_z w32 z))) → k ≡ count_at text s at
 count-is text s at t z r k f h e a q g =
-    g ∙ ap (λ (y : ℤ). acting_as (I.Is y)) (kept z f) ∙ ap acting_as (sym q ∙ a ∙ ap (i32_of text) e) ∙ sym (count-inside text s at h)
+    g ∙ ap (λ (y : ℤ). acting_as (Some y)) (kept z f) ∙ ap acting_as (sym q ∙ a ∙ ap (i32_of text) e) ∙ sym (count-inside text s at h)
 
-pub count-is-none : (text s : List ℕ) (at : ℕ) (t : Token) (r : Integer) → at < length s → t ≡ token_of (get_or s at 0) → r ≡ i32_of text t → r ≡ I.Nothing → 0 ≡ count_at text s at
+pub count-is-none : (text s : List ℕ) (at : ℕ) (t : Token) (r : Std.Option ℤ) → at < length s → t ≡ token_of (get_or s at 0) → r ≡ i32_of text t → r ≡ None → 0 ≡ count_at text s at
 count-is-none text s at t r h e a q = ap acting_as (sym q ∙ a ∙ ap (i32_of text) e) ∙ sym (count-inside text s at h)
 
 -- ---- bools and stores

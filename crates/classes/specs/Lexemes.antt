@@ -1,7 +1,5 @@
 -- The tokens that a table's words stand for, as the grammar sees them, and tests of the one at a place.
-use Rattle.std.specs.Prelude.{◌≡◌, Bool, true, false, cond, List, [], ◌∷◌, ℕ, suc, ◌≤◌, ◌<◌, ltb, pos, negsuc, length, get_or}
-use Rattle.numbers.specs.declared.Integer.{Integer}
-use Rattle.numbers.specs.declared.Integer.TheVariants as I
+use Rattle.std.specs.Prelude.{◌≡◌, Bool, true, false, cond, List, [], ◌∷◌, ℕ, suc, ◌≤◌, ◌<◌, ltb, pos, negsuc, length, get_or, Option, Some, None, ℤ}
 use Rattle.tokens.specs.Kinds.{code_of}
 use Rattle.tokens.specs.Tokens.{token_of, raw_text, is_within}
 use Rattle.values.specs.Values.{i32_of}
@@ -49,17 +47,17 @@ unfoldable pub fits_at : Class → List ℕ → List ℕ → ℕ → Bool
 fits_at m text s at = cond (ltb at (length s)) (class_at m text s at) false
 
 -- the number that a count acts as: of a negative one, and where there is none, 0
-abbrev pub acting_as : Integer → ℕ
-acting_as (I.Is (pos m)) = m
-acting_as (I.Is (negsuc m)) = 0
-acting_as I.Nothing = 0
+abbrev pub acting_as : Option ℤ → ℕ
+acting_as (Some (pos m)) = m
+acting_as (Some (negsuc m)) = 0
+acting_as None = 0
 
 unfoldable pub count_at : List ℕ → List ℕ → ℕ → ℕ
 count_at text s at = cond (ltb at (length s)) (acting_as (i32_of text (token_of (get_or s at 0)))) 0
 
-abbrev pub is_integer : Integer → Bool
-is_integer (I.Is n) = true
-is_integer I.Nothing = false
+abbrev pub is_integer : Option ℤ → Bool
+is_integer (Some n) = true
+is_integer None = false
 
 -- whether the token at a place is a count
 unfoldable pub is_count_at : List ℕ → List ℕ → ℕ → Bool

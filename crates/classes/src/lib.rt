@@ -1,12 +1,10 @@
 // What an operand may be, and whether the token at a place is that.
 #![tactic(auto)]
 
-ghost use Rattle.std.specs.Prelude.{◌≡◌, ◌||◌, eqb, ◌<◌, length};
+ghost use Rattle.std.specs.Prelude.{◌≡◌, ◌||◌, eqb, ◌<◌, length, Some};
 ghost use Rattle.classes.specs.declared.Class.TheVariants as C;
 ghost use Rattle.classes.specs.Lexemes.{Sound, kind_at, class_at, fits_at, acting_as, count_at, is_count_at};
-ghost use Rattle.numbers.specs.declared.Integer.TheVariants as I;
 
-use numbers::{Integer, Natural};
 use tokens::{kind_place, token_of};
 use values::{TokenValue, i32_of, u8_of, u16_of, value};
 
@@ -57,10 +55,7 @@ fn u8_at(text: &[u8], s: &[u64], at: usize) -> bool
     ensures { result ≡ class_at C.U8 text.now s.now at }
 {
     let t = token_of(s[at]);
-    match u8_of(text, t) {
-        Natural::Is(_) => true,
-        Natural::Nothing => false,
-    }
+    u8_of(text, t).is_some()
 }
 
 fn u16_at(text: &[u8], s: &[u64], at: usize) -> bool
@@ -68,10 +63,7 @@ fn u16_at(text: &[u8], s: &[u64], at: usize) -> bool
     ensures { result ≡ class_at C.U16 text.now s.now at }
 {
     let t = token_of(s[at]);
-    match u16_of(text, t) {
-        Natural::Is(_) => true,
-        Natural::Nothing => false,
-    }
+    u16_of(text, t).is_some()
 }
 
 fn one_of(k: u64, a: u64, b: u64) -> bool
@@ -102,7 +94,7 @@ pub fn fits_at(text: &[u8], s: &[u64], at: usize, m: Class) -> bool
 
 // A negative count acts as 0.
 fn acts_as(n: i32) -> u64
-    ensures { result ≡ acting_as (I.Is n) }
+    ensures { result ≡ acting_as (Some n) }
 {
     if n < 0 { 0 } else { n as u64 }
 }
@@ -116,8 +108,8 @@ pub fn count_at(text: &[u8], s: &[u64], at: usize) -> u64
     }
     let t = token_of(s[at]);
     match i32_of(text, t) {
-        Integer::Is(n) => acts_as(n),
-        Integer::Nothing => 0,
+        Some(n) => acts_as(n),
+        None => 0,
     }
 }
 
@@ -129,8 +121,5 @@ pub fn is_count(text: &[u8], s: &[u64], at: usize) -> bool
         return false;
     }
     let t = token_of(s[at]);
-    match i32_of(text, t) {
-        Integer::Is(_) => true,
-        Integer::Nothing => false,
-    }
+    i32_of(text, t).is_some()
 }

@@ -6,6 +6,7 @@ use Prim.Native.Nat.{ℕ, zero, suc, ◌≤◌}
 use native.Mathlib.Omega.{arith}
 use lib.Dec.{ltb}
 use lib.ListN.{get_or}
+use Rattle.std.specs.Prelude.{Option, Some, None}
 use Rattle.names.specs.declared.ActionName.{ActionName}
 use Rattle.actions.specs.Numbers.{action_at}
 use Rattle.actions.proofs.Numbers.{number_below}
@@ -15,8 +16,6 @@ use Rattle.tokens.specs.declared.TokenKind.TheVariants as K
 use Rattle.tokens.proofs.Words.{InRange}
 use Rattle.words.specs.Spellings.{bytes, spellings}
 use Rattle.words.specs.Words.{index_in}
-use Rattle.numbers.specs.declared.Natural.{Natural}
-use Rattle.numbers.specs.declared.Natural.TheVariants as N
 use Rattle.keywords.specs.Keywords.{constant_or, keyword_kinds, keyword_words, named, number_after, register_or, word_kind}
 use Rattle.keywords.proofs.Prefixes.{small}
 
@@ -24,13 +23,13 @@ use Rattle.keywords.proofs.Prefixes.{small}
 abbrev pub Plain : TokenKind → Type 0
 Plain k = InRange k × (is_kind k (K.String true) ≡ false)
 
-constant-plain : (x : Natural) (k : TokenKind) → ((n : ℕ) → x ≡ N.Is n → n ≤ 65535) → Plain k → Plain (constant_or x k)
-constant-plain (N.Is n) k f h = (omega (arith, f n refl), refl)
-constant-plain N.Nothing k f h = h
+constant-plain : (x : Option ℕ) (k : TokenKind) → ((n : ℕ) → x ≡ Some n → n ≤ 65535) → Plain k → Plain (constant_or x k)
+constant-plain (Some n) k f h = (omega (arith, f n refl), refl)
+constant-plain None k f h = h
 
-register-plain : (x : Natural) (k : TokenKind) → ((n : ℕ) → x ≡ N.Is n → n ≤ 255) → Plain k → Plain (register_or x k)
-register-plain (N.Is n) k f h = (omega (arith, f n refl), refl)
-register-plain N.Nothing k f h = h
+register-plain : (x : Option ℕ) (k : TokenKind) → ((n : ℕ) → x ≡ Some n → n ≤ 255) → Plain k → Plain (register_or x k)
+register-plain (Some n) k f h = (omega (arith, f n refl), refl)
+register-plain None k f h = h
 
 action-plain : (a : ActionName) → Plain (K.ActionName a)
 action-plain a = (omega (arith, number_below a), refl)

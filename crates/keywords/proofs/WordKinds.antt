@@ -4,6 +4,7 @@ use mathlib.Core.List.{List}
 use Prim.Native.Nat.{ℕ, ◌≤◌, ◌<◌}
 use lib.ListN.{get_or, get_or-eq_default}
 use borrow.Author.Tests.{lt-ltb, le-ltb}
+use Rattle.std.specs.Prelude.{Option, Some, None}
 use Rattle.laws.proofs.Tabulate.{agree}
 use Rattle.actions.specs.Numbers.{action_at}
 use Rattle.tokens.specs.declared.TokenKind.{TokenKind}
@@ -11,8 +12,6 @@ use Rattle.tokens.specs.declared.TokenKind.TheVariants as K
 use Rattle.words.specs.Spellings.{bytes, spellings}
 use Rattle.words.specs.Words.{index_in}
 use Rattle.keywords.specs.Keywords.{keyword_kinds, keyword_words, named, number_after, word_kind}
-use Rattle.numbers.specs.declared.Natural.{Natural}
-use Rattle.numbers.specs.declared.Natural.TheVariants as N
 
 module _ (w : List ℕ) (i : ℕ) (ei : i ≡ index_in w spellings) where
   pub action : i < 100 → K.ActionName (action_at i) ≡ named w
@@ -30,16 +29,16 @@ module _ (w : List ℕ) (i : ℕ) (ei : i ≡ index_in w spellings) where
     unfolding named
     identifier h = simp (← ei, le-ltb i 100 n, ← ej, get_or-eq_default keyword_kinds K.Identifier h)
 
-module _ (w : List ℕ) (x : Natural) (ex : x ≡ number_after (bytes "constant") 65535 w) where
-  pub constant : (n : ℕ) → x ≡ N.Is n → K.Constant n ≡ word_kind w
+module _ (w : List ℕ) (x : Option ℕ) (ex : x ≡ number_after (bytes "constant") 65535 w) where
+  pub constant : (n : ℕ) → x ≡ Some n → K.Constant n ≡ word_kind w
   unfolding word_kind
   constant n e = simp (← ex, e)
 
-  module _ (nx : x ≡ N.Nothing) (y : Natural) (ey : y ≡ number_after (bytes "register") 255 w) where
-    pub register : (n : ℕ) → y ≡ N.Is n → K.Register n ≡ word_kind w
+  module _ (nx : x ≡ None) (y : Option ℕ) (ey : y ≡ number_after (bytes "register") 255 w) where
+    pub register : (n : ℕ) → y ≡ Some n → K.Register n ≡ word_kind w
     unfolding word_kind
     register n e = simp (← ex, nx, ← ey, e)
 
-    pub name : (k : TokenKind) → y ≡ N.Nothing → k ≡ named w → k ≡ word_kind w
+    pub name : (k : TokenKind) → y ≡ None → k ≡ named w → k ≡ word_kind w
     unfolding word_kind
     name k e f = f ∙ simp (← ex, nx, ← ey, e)

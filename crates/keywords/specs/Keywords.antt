@@ -1,5 +1,5 @@
 -- The kind of a word, case ignored.
-use Rattle.std.specs.Prelude.{cond, List, [], ◌∷◌, map, ℕ, ltb, length, take, drop, get_or}
+use Rattle.std.specs.Prelude.{cond, List, [], ◌∷◌, map, ℕ, ltb, length, take, drop, get_or, Option, Some, None}
 use Prim.Native.String.{String}
 use Rattle.actions.specs.Numbers.{action_at}
 use Rattle.tokens.specs.declared.TokenKind.{TokenKind}
@@ -7,12 +7,10 @@ use Rattle.tokens.specs.declared.TokenKind.TheVariants as K
 use Rattle.words.specs.Spellings.{bytes, spellings}
 use Rattle.words.specs.Words.{index_in, same_word}
 use Rattle.numbers.specs.Integers.{natural}
-use Rattle.numbers.specs.declared.Natural.{Natural}
-use Rattle.numbers.specs.declared.Natural.TheVariants as N
 
 -- the number that stands behind a prefix, if it is at most `top`
-unfoldable pub number_after : List ℕ → ℕ → List ℕ → Natural
-number_after p top w = cond (same_word (take (length p) w) p) (natural top (drop (length p) w)) N.Nothing
+unfoldable pub number_after : List ℕ → ℕ → List ℕ → Option ℕ
+number_after p top w = cond (same_word (take (length p) w) p) (natural top (drop (length p) w)) None
 
 pub record Keyword : Type 0 where
   pub spelling : String
@@ -45,13 +43,13 @@ named w =
     (K.ActionName (action_at (index_in w spellings)))
     (get_or keyword_kinds (index_in w keyword_words) K.Identifier)
 
-abbrev pub constant_or : Natural → TokenKind → TokenKind
-constant_or (N.Is n) k = K.Constant n
-constant_or N.Nothing k = k
+abbrev pub constant_or : Option ℕ → TokenKind → TokenKind
+constant_or (Some n) k = K.Constant n
+constant_or None k = k
 
-abbrev pub register_or : Natural → TokenKind → TokenKind
-register_or (N.Is n) k = K.Register n
-register_or N.Nothing k = k
+abbrev pub register_or : Option ℕ → TokenKind → TokenKind
+register_or (Some n) k = K.Register n
+register_or None k = k
 
 -- `constant` and a number up to 65,535, else `register` and a number up to 255, else a name
 unfoldable pub word_kind : List ℕ → TokenKind

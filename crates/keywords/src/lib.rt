@@ -6,7 +6,6 @@ ghost use Rattle.words.specs.Tables.{Lent};
 ghost use Rattle.words.specs.Words.{index_in};
 ghost use Rattle.keywords.specs.Keywords.{number_after, keyword_words, named, word_kind};
 
-use numbers::Natural;
 use tokens::TokenKind;
 
 // The letters of the keywords, one after another.
@@ -25,16 +24,16 @@ const KINDS: [TokenKind; 6] = [
 ];
 
 // The number that stands behind a prefix.
-fn number_after(prefix: &[u8], top: u64, w: &[u8]) -> Natural
+fn number_after(prefix: &[u8], top: u64, w: &[u8]) -> Option<u64>
     requires { top ≤ 65535 }
     ensures { result ≡ number_after prefix.now top w.now }
 {
     let n = prefix.len();
     if w.len() < n {
-        return Natural::Nothing;
+        return None;
     }
     if !words::same_word(&w[..n], prefix) {
-        return Natural::Nothing;
+        return None;
     }
     numbers::parse_natural(top, &w[n..])
 }
@@ -68,11 +67,11 @@ pub fn word_kind(w: &[u8], letters: &[u8], starts: &[usize], firsts: &[usize]) -
     ensures { result ≡ word_kind w.now }
 {
     let constant = number_after(b"constant", 65535, w);
-    if let Natural::Is(n) = constant {
+    if let Some(n) = constant {
         return TokenKind::Constant(n as u16);
     }
     let register = number_after(b"register", 255, w);
-    if let Natural::Is(n) = register {
+    if let Some(n) = register {
         return TokenKind::Register(n as u8);
     }
     named_kind(w, letters, starts, firsts)

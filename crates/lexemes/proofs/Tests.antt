@@ -5,14 +5,13 @@ use mathlib.Core.Option.{some}
 use mathlib.Core.List.{List}
 use Prim.Native.Nat.{ℕ}
 use lib.Dec.{eqb, leb}
-use lib.IntN.{pos, negsuc}
+use lib.IntN.{ℤ, pos, negsuc}
 use lib.ListN.{get_or}
 use borrow.Author.Tests.{eqb-true, eq-eqb}
+use Rattle.std.specs.Prelude.{Option, Some, None}
 use Rattle.tokens.specs.declared.TokenKind.{TokenKind}
 use Rattle.tokens.specs.declared.TokenKind.TheVariants as K
 use Rattle.tokens.specs.Kinds.{code_of, is_kind, kinds}
-use Rattle.numbers.specs.declared.Integer.{Integer}
-use Rattle.numbers.specs.declared.Integer.TheVariants as I
 use Rattle.values.specs.Values.{push_value}
 use Rattle.lexemes.specs.Lexemes.{lexeme}
 use Rattle.lexemes.specs.Operands.{Class, string, value, bool, only_true, only_false, u8, u16, identifier, target, count, is_operand, acts_as, acting}
@@ -129,12 +128,12 @@ operand_not m {c = c} i k w g h = by (is_kind k c) refl
 
 -- ---- counts
 
-pub acts-known : (n : ℕ) (z : Integer) → acts_as n z ≡ true → acting z ≡ some n
-acts-known n (I.Is (pos m)) h = ap some (eqb-true m n h)
-acts-known n (I.Is (negsuc m)) h = ap some (eqb-true 0 n h)
-acts-known n I.Nothing h = absurd (false≢true h)
+pub acts-known : (n : ℕ) (z : Option ℤ) → acts_as n z ≡ true → acting z ≡ some n
+acts-known n (Some (pos m)) h = ap some (eqb-true m n h)
+acts-known n (Some (negsuc m)) h = ap some (eqb-true 0 n h)
+acts-known n None h = absurd (false≢true h)
 
-pub acting-acts : (n : ℕ) (z : Integer) → acting z ≡ some n → acts_as n z ≡ true
-acting-acts n (I.Is (pos m)) h = let e : m ≡ n = cc in rw e (eq-eqb n n refl)
-acting-acts n (I.Is (negsuc m)) h = let e : 0 ≡ n = cc in rw (← e) (eq-eqb 0 0 refl)
-acting-acts n I.Nothing h = absurd (let z : 0 ≡ 1 = cc in false≢true (ap (λ (i : ℕ). eqb i 1) z))
+pub acting-acts : (n : ℕ) (z : Option ℤ) → acting z ≡ some n → acts_as n z ≡ true
+acting-acts n (Some (pos m)) h = let e : m ≡ n = cc in rw e (eq-eqb n n refl)
+acting-acts n (Some (negsuc m)) h = let e : 0 ≡ n = cc in rw (← e) (eq-eqb 0 0 refl)
+acting-acts n None h = absurd (let z : 0 ≡ 1 = cc in false≢true (ap (λ (i : ℕ). eqb i 1) z))

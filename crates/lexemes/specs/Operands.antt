@@ -1,13 +1,10 @@
 -- What an operand may be: document 01, 'Grammar', the words string, value, bool, u8, ..
-use Rattle.std.specs.Prelude.{Bool, true, false, ◌&&◌, ◌||◌, List, [], ◌∷◌, ℕ, zero, suc, eqb, pos, negsuc, length}
+use Rattle.std.specs.Prelude.{Bool, true, false, ◌&&◌, ◌||◌, List, [], ◌∷◌, ℕ, zero, suc, eqb, pos, negsuc, length, Some, None, ℤ}
 use Rattle.std.proofs.Math.Option.{Option, none, some}
+use Rattle.std.specs.Prelude as Std
 use Rattle.tokens.specs.declared.TokenKind.TheVariants as K
 use Rattle.tokens.specs.Kinds.{is_kind}
 use Rattle.tokens.specs.Tokens.{span}
-use Rattle.numbers.specs.declared.Natural.{Natural}
-use Rattle.numbers.specs.declared.Natural.TheVariants as N
-use Rattle.numbers.specs.declared.Integer.{Integer}
-use Rattle.numbers.specs.declared.Integer.TheVariants as I
 use Rattle.numbers.specs.Integers.{natural, integer}
 use Rattle.values.specs.declared.PushValue.{PushValue}
 use Rattle.values.specs.Values.{push_value}
@@ -27,15 +24,15 @@ abbrev pub is_some : {A : Type 0} → Option A → Bool
 is_some none = false
 is_some (some v) = true
 
-abbrev pub is_parsed : Natural → Bool
-is_parsed (N.Is n) = true
-is_parsed N.Nothing = false
+abbrev pub is_parsed : Std.Option ℕ → Bool
+is_parsed (Some n) = true
+is_parsed None = false
 
 -- a negative count acts as 0
-abbrev pub acts_as : ℕ → Integer → Bool
-acts_as n (I.Is (pos m)) = eqb m n
-acts_as n (I.Is (negsuc m)) = eqb 0 n
-acts_as n I.Nothing = false
+abbrev pub acts_as : ℕ → Std.Option ℤ → Bool
+acts_as n (Some (pos m)) = eqb m n
+acts_as n (Some (negsuc m)) = eqb 0 n
+acts_as n None = false
 
 -- a token's value, asked of its raw text alone
 abbrev pub value_of : Lexeme → Option PushValue
@@ -55,7 +52,7 @@ is_operand target (lexeme i k w) = is_kind k (K.String true) || is_kind k (K.Reg
 is_operand (count n) (lexeme i k w) = is_kind k K.Integer && acts_as n (integer w)
 
 -- the number that an i32 acts as, if it is one: `acts_as` as a function, for the machine alone
-abbrev pub acting : Integer → Option ℕ
-acting (I.Is (pos m)) = some m
-acting (I.Is (negsuc m)) = some 0
-acting I.Nothing = none
+abbrev pub acting : Std.Option ℤ → Option ℕ
+acting (Some (pos m)) = some m
+acting (Some (negsuc m)) = some 0
+acting None = none

@@ -11,13 +11,12 @@ use lib.Ieee.{fin}
 use lib.ListN.{length, take, drop, get_or, length-drop}
 use lib.Seq.{take_all}
 use borrow.Author.Tests.{eq-eqb, ne_eqb, le-leb, lt-leb, lt-ltb, le-ltb}
+use Rattle.std.specs.Prelude.{Option, Some, None}
 use Rattle.scanner.specs.Ends.{sign_end}
 use Rattle.scanner.proofs.Runs.{inside}
 use Rattle.scanner.proofs.Ends.{Within, digits_within, point_within, sign_within}
 use Rattle.numbers.specs.Integers.{is_minus, has_minus, minus_end, is_natural, value_of, up_to}
 use Rattle.numbers.specs.Doubles.{whole_end, mantissa_end, fraction_digits, has_digit, is_e, is_exponent, is_number, w, exponent, exponent_has_minus, up, down, scaled, signed, is_short, double_of, double}
-use Rattle.numbers.specs.declared.Natural.{Natural}
-use Rattle.numbers.specs.declared.Natural.TheVariants as N
 use Rattle.numbers.specs.declared.Double.{Double}
 use Rattle.numbers.specs.declared.Double.TheVariants as D
 use Rattle.numbers.proofs.Integers.{minus_within, told, untold}
@@ -139,28 +138,28 @@ module _ (s : List ℕ) where
       pub without_minus : t ≡ false → double_of (has_minus s) n x f ≡ double_of (has_minus s) n (up s) (down s)
       without_minus h = simp (has_minus_lem, h, ex, ef, zero-add)
 
-  pub off_pattern : is_number s ≡ false → D.Nothing ≡ double s
+  pub off_pattern : is_number s ≡ false → None ≡ double s
   unfolding double
   off_pattern h = simp h
 
   module _ (h : is_number s ≡ true) where
-    pub known : (n : ℕ) → n ≡ w s → (r : Double) → r ≡ double_of (has_minus s) n (up s) (down s) → r ≡ double s
+    pub known : (n : ℕ) → n ≡ w s → (r : Double) → r ≡ double_of (has_minus s) n (up s) (down s) → Some r ≡ double s
     unfolding double
-    known n e r q = q ∙ ap (λ (k : ℕ). double_of (has_minus s) k (up s) (down s)) e ∙ simp h
+    known n e r q = ap Some (q ∙ ap (λ (k : ℕ). double_of (has_minus s) k (up s) (down s)) e) ∙ simp h
 
-    pub long : 9007199254740992 < w s → D.Long ≡ double s
+    pub long : 9007199254740992 < w s → Some D.Long ≡ double s
     long g = known (w s) refl D.Long (too_many (has_minus s) (w s) (up s) (down s) (λ e. omega arith) g)
 
   -- what the digits, and those of the exponent, were found to write
-  module _ (e : ℕ) (ee : e ≡ mantissa_end s) (r : Natural) where
+  module _ (e : ℕ) (ee : e ≡ mantissa_end s) (r : Option ℕ) where
     module _ (er : r ≡ up_to 9007199254740992 (value_of (take e s))) where
       so : up_to 9007199254740992 (w s) ≡ r
       so = sym (er ∙ ap (λ (m : ℕ). up_to 9007199254740992 (value_of (take m s))) ee)
 
-      pub digits_told : (n : ℕ) → r ≡ N.Is n → (n ≡ w s) × (n ≤ 9007199254740992)
+      pub digits_told : (n : ℕ) → r ≡ Some n → (n ≡ w s) × (n ≤ 9007199254740992)
       digits_told n h = told 9007199254740992 (w s) n (so ∙ h)
 
-      pub digits_many : r ≡ N.Nothing → 9007199254740992 < w s
+      pub digits_many : r ≡ None → 9007199254740992 < w s
       digits_many h = untold 9007199254740992 (w s) (so ∙ h)
 
     module _ (er : r ≡ up_to 9007199254740992 (value_of (take (length s - e) (drop e s)))) where
@@ -171,8 +170,8 @@ module _ (s : List ℕ) where
           ∙ ap (λ (l : List ℕ). up_to 9007199254740992 (value_of l)) (take_all (length s - e) (drop e s) (omega (arith, length-drop e s)))
           ∙ ap (λ (m : ℕ). up_to 9007199254740992 (value_of (drop m s))) ee)
 
-      pub exponent-told : (x : ℕ) → r ≡ N.Is x → (x ≡ exponent s) × (x ≤ 9007199254740992)
+      pub exponent-told : (x : ℕ) → r ≡ Some x → (x ≡ exponent s) × (x ≤ 9007199254740992)
       exponent-told x h = told 9007199254740992 (exponent s) x (so_far ∙ h)
 
-      pub exponent_many : r ≡ N.Nothing → 9007199254740992 < exponent s
+      pub exponent_many : r ≡ None → 9007199254740992 < exponent s
       exponent_many h = untold 9007199254740992 (exponent s) (so_far ∙ h)

@@ -14,13 +14,12 @@ use mir.Syntax.{w32, w64}
 use mir.Val.{SFits, to_z, of_z}
 use mir.ValLaws.{to_z_pos, to_z-of_z}
 use borrow.Author.Tests.{le-leb, lt-leb, leb-true, leb-false, lt-ltb, le-ltb, eqb-true}
+use Rattle.std.specs.Prelude.{Option, Some, None}
 use Rattle.laws.proofs.Integers.{zero_sub}
 use Rattle.scanner.specs.Bytes.{is_digit}
 use Rattle.scanner.specs.Ends.{digits_end}
 use Rattle.scanner.proofs.Runs.{inside}
 use Rattle.numbers.specs.Integers.{with_byte, value_from, value_of, up_to, is_natural, natural, has_minus, minus_end, largest, with_sign, integer}
-use Rattle.numbers.specs.declared.Natural.{Natural}
-use Rattle.numbers.specs.declared.Natural.TheVariants as N
 
 pub digit_range : (b : ℕ) → is_digit b ≡ true → (48 ≤ b) × (b ≤ 57)
 digit_range b e = let p = (and-eq-true_iff (leb 48 b) (leb b 57)).0 e in (leb-true 48 b p.0, leb-true b 57 p.1)
@@ -61,44 +60,44 @@ module _ (s : List ℕ) (n i : ℕ) (so : value_of s ≡ value_from n (drop i s)
     value_above top g = omega (arith, value-next, value_grows (drop (i + 1) s) m)
 
 module _ (top n : ℕ) where
-  pub at_most : n ≤ top → N.Is n ≡ up_to top n
+  pub at_most : n ≤ top → Some n ≡ up_to top n
   unfolding up_to
   at_most h = simp (le-leb n top h)
 
-  pub above : top < n → N.Nothing ≡ up_to top n
+  pub above : top < n → None ≡ up_to top n
   unfolding up_to
   above h = simp (lt-leb n top h)
 
-  pub told : (k : ℕ) → up_to top n ≡ N.Is k → (k ≡ n) × (k ≤ top)
+  pub told : (k : ℕ) → up_to top n ≡ Some k → (k ≡ n) × (k ≤ top)
   unfolding up_to
   told k e = by (leb n top) refl e
     where
-      by : (t : Bool) → leb n top ≡ t → cond t (N.Is n) N.Nothing ≡ N.Is k → (k ≡ n) × (k ≤ top)
+      by : (t : Bool) → leb n top ≡ t → cond t (Some n) None ≡ Some k → (k ≡ n) × (k ≤ top)
       by true p e = let q : n ≡ k = cc in (sym q, omega (arith, leb-true n top p))
       by false p e = let z : ◌≡◌ {A = ℕ} 0 1 = cc in (omega arith, omega arith)
 
-  pub untold : up_to top n ≡ N.Nothing → top < n
+  pub untold : up_to top n ≡ None → top < n
   unfolding up_to
   untold e = by (leb n top) refl e
     where
-      by : (t : Bool) → leb n top ≡ t → cond t (N.Is n) N.Nothing ≡ N.Nothing → top < n
+      by : (t : Bool) → leb n top ≡ t → cond t (Some n) None ≡ None → top < n
       by true p e = let z : ◌≡◌ {A = ℕ} 0 1 = cc in omega arith
       by false p e = leb-false n top p
 
 module _ (top : ℕ) (s : List ℕ) where
-  pub no_natural : is_natural s ≡ false → N.Nothing ≡ natural top s
+  pub no_natural : is_natural s ≡ false → None ≡ natural top s
   unfolding natural
   no_natural e = simp e
 
-  pub a_natural : is_natural s ≡ true → (r : Natural) → r ≡ up_to top (value_of s) → r ≡ natural top s
+  pub a_natural : is_natural s ≡ true → (r : Option ℕ) → r ≡ up_to top (value_of s) → r ≡ natural top s
   unfolding natural
   a_natural e r h = h ∙ simp e
 
-  pub natural-small : (k : ℕ) → natural top s ≡ N.Is k → k ≤ top
+  pub natural-small : (k : ℕ) → natural top s ≡ Some k → k ≤ top
   unfolding natural
   natural-small k e = by (is_natural s) e
     where
-      by : (t : Bool) → cond t (up_to top (value_of s)) N.Nothing ≡ N.Is k → k ≤ top
+      by : (t : Bool) → cond t (up_to top (value_of s)) None ≡ Some k → k ≤ top
       by true e = (told top (value_of s) k e).1
       by false e = let z : ◌≡◌ {A = ℕ} 0 1 = cc in omega arith
 
@@ -139,7 +138,7 @@ module _ (s : List ℕ) where
         ap (natural top) (take_all (length s - m) (drop m s) (omega (arith, length-drop m s)))
         ∙ simp (eo, et, em)
 
-    pub signed_or_none : (x y : Natural) → x ≡ natural top (take (length s - m) (drop m s)) → x ≡ y → with_sign t y ≡ integer s
+    pub signed_or_none : (x y : Option ℕ) → x ≡ natural top (take (length s - m) (drop m s)) → x ≡ y → with_sign t y ≡ integer s
     unfolding integer
     signed_or_none x y ex e = ap (with_sign t) (sym e ∙ ex ∙ told-by) ∙ simp et
 

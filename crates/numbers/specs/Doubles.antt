@@ -1,5 +1,5 @@
 -- The number pattern and the double that it stands for: document 01, 'Tokens' and 'Values and deltas'.
-use Rattle.std.specs.Prelude.{Bool, true, false, cond, ◌&&◌, ◌||◌, List, ℕ, ◌+◌, ◌-◌, ◌^◌, eqb, leb, ltb, pos, Float, length, take, drop, get_or}
+use Rattle.std.specs.Prelude.{Bool, true, false, cond, ◌&&◌, ◌||◌, List, ℕ, ◌+◌, ◌-◌, ◌^◌, eqb, leb, ltb, pos, Float, length, take, drop, get_or, Option, Some, None}
 use Rattle.std.specs.Float.{fin, binary64}
 use Rattle.std.specs.Float.Ieee.{of_int, mul, div, neg}
 use Rattle.scanner.specs.Ends.{digits_end, point_end, sign_end}
@@ -77,5 +77,5 @@ double_of negative n u d =
     (cond (leb n 9007199254740992 && is_short u d) (D.Is (signed negative (scaled n u d))) D.Long)
 
 -- raw text off the pattern has no value
-unfoldable pub double : List ℕ → Double
-double s = cond (is_number s) (double_of (has_minus s) (w s) (up s) (down s)) D.Nothing
+unfoldable pub double : List ℕ → Option Double
+double s = cond (is_number s) (Some (double_of (has_minus s) (w s) (up s) (down s))) None

@@ -1,11 +1,7 @@
 -- Whole numbers as Rust parses them: u8, u16 and i32, within document 01's number pattern, which has no plus.
-use Rattle.std.specs.Prelude.{Bool, true, false, cond, ◌&&◌, List, [], ◌∷◌, ℕ, ◌+◌, ◌*◌, ◌-◌, eqb, leb, ltb, ℤ, pos, neg_ℤ, length, drop, get_or}
+use Rattle.std.specs.Prelude.{Bool, true, false, cond, ◌&&◌, List, [], ◌∷◌, ℕ, ◌+◌, ◌*◌, ◌-◌, eqb, leb, ltb, ℤ, pos, neg_ℤ, length, drop, get_or, Option, Some, None}
 use Rattle.scanner.specs.Bytes.{is_digit}
 use Rattle.scanner.specs.Ends.{digits_end}
-use Rattle.numbers.specs.declared.Natural.{Natural}
-use Rattle.numbers.specs.declared.Natural.TheVariants as N
-use Rattle.numbers.specs.declared.Integer.{Integer}
-use Rattle.numbers.specs.declared.Integer.TheVariants as I
 
 -- a digit put behind the number n; any other byte changes nothing
 unfoldable pub with_byte : ℕ → ℕ → ℕ
@@ -19,16 +15,16 @@ value_from n (b ∷ s) = value_from (with_byte n b) s
 abbrev pub value_of : List ℕ → ℕ
 value_of s = value_from 0 s
 
-unfoldable pub up_to : ℕ → ℕ → Natural
-up_to top n = cond (leb n top) (N.Is n) N.Nothing
+unfoldable pub up_to : ℕ → ℕ → Option ℕ
+up_to top n = cond (leb n top) (Some n) None
 
 -- one or more digits and nothing else; leading zeros allowed
 unfoldable pub is_natural : List ℕ → Bool
 is_natural s = ltb 0 (length s) && eqb (digits_end s 0) (length s)
 
 -- a number without a sign, up to the width's largest: 255 for a u8, 65,535 for a u16
-unfoldable pub natural : ℕ → List ℕ → Natural
-natural top s = cond (is_natural s) (up_to top (value_of s)) N.Nothing
+unfoldable pub natural : ℕ → List ℕ → Option ℕ
+natural top s = cond (is_natural s) (up_to top (value_of s)) None
 
 abbrev pub is_minus : ℕ → Bool
 is_minus b = eqb b 45
@@ -49,10 +45,10 @@ abbrev pub signed_number : Bool → ℕ → ℤ
 signed_number true n = neg_ℤ (pos n)
 signed_number false n = pos n
 
-abbrev pub with_sign : Bool → Natural → Integer
-with_sign negative (N.Is n) = I.Is (signed_number negative n)
-with_sign negative N.Nothing = I.Nothing
+abbrev pub with_sign : Bool → Option ℕ → Option ℤ
+with_sign negative (Some n) = Some (signed_number negative n)
+with_sign negative None = None
 
 -- an i32
-unfoldable pub integer : List ℕ → Integer
+unfoldable pub integer : List ℕ → Option ℤ
 integer s = with_sign (has_minus s) (natural (largest (has_minus s)) (drop (minus_end s) s))

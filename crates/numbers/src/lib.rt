@@ -6,25 +6,11 @@ ghost use Rattle.std.specs.Float.{fin};
 ghost use Rattle.numbers.specs.Integers.{with_byte, value_of, up_to, is_natural, natural, is_minus, has_minus, minus_end, largest, signed_number, integer};
 ghost use Rattle.numbers.specs.Doubles.{whole_end, mantissa_end, fraction_digits, has_digit, is_e, is_exponent, is_number, ten, scaled, signed, exponent, up, down, double_of, double};
 
-// A number without a sign, or none.
-#[derive(Clone, Copy)]
-pub enum Natural {
-    Is(u64),
-    Nothing,
-}
-
-#[derive(Clone, Copy)]
-pub enum Integer {
-    Is(i32),
-    Nothing,
-}
-
 // `Long` is a number that one rounded operation on exact operands does not give.
 #[derive(Clone, Copy)]
 pub enum Double {
     Is(f64),
     Long,
-    Nothing,
 }
 
 // A digit put behind the number n; any other byte changes nothing.
@@ -39,20 +25,18 @@ fn with_byte(n: u64, b: u8) -> u64
 }
 
 // The number that the digits among the bytes write, if it is at most `top`.
-fn number_up_to(top: u64, s: &[u8]) -> Natural
+fn number_up_to(top: u64, s: &[u8]) -> Option<u64>
     requires { top ≤ 9007199254740992 }
     ensures { result ≡ up_to top (value_of s.now) }
 {
     let mut n = 0;
-    let mut i = 0;
-    while i < s.len() {
-        n = with_byte(n, s[i]);
+    for b in s {
+        n = with_byte(n, *b);
         if top < n {
-            return Natural::Nothing;
+            return None;
         }
-        i += 1;
     }
-    Natural::Is(n)
+    Some(n)
 }
 
 // One or more digits and nothing else.
@@ -66,12 +50,12 @@ fn is_natural(s: &[u8]) -> bool
 }
 
 // A number without a sign, if it is at most `top`.
-pub fn parse_natural(top: u64, s: &[u8]) -> Natural
+pub fn parse_natural(top: u64, s: &[u8]) -> Option<u64>
     requires { top ≤ 9007199254740992 }
     ensures { result ≡ natural top s.now }
 {
     if !is_natural(s) {
-        return Natural::Nothing;
+        return None;
     }
     number_up_to(top, s)
 }
@@ -112,15 +96,13 @@ fn signed_number(negative: bool, n: u64) -> i32
 }
 
 // An i32, with an optional minus.
-pub fn parse_integer(s: &[u8]) -> Integer
+pub fn parse_integer(s: &[u8]) -> Option<i32>
     ensures { result ≡ integer s.now }
 {
     let negative = has_minus(s, 0);
     let digits = minus_end(s);
-    let Natural::Is(n) = parse_natural(largest(negative), &s[digits..]) else {
-        return Integer::Nothing;
-    };
-    Integer::Is(signed_number(negative, n))
+    let n = parse_natural(largest(negative), &s[digits..])?;
+    Some(signed_number(negative, n))
 }
 
 const TENS: [f64; 23] = [
@@ -276,19 +258,19 @@ fn far_double(s: &[u8], n: u64) -> Double
 }
 
 // The double that a number's text stands for.
-pub fn parse_double(s: &[u8]) -> Double
+pub fn parse_double(s: &[u8]) -> Option<Double>
     requires { length s.now ≤ 65536 }
     ensures { result ≡ double s.now }
 {
     if !is_number(s) {
-        return Double::Nothing;
+        return None;
     }
     let end = mantissa_end(s);
-    let Natural::Is(n) = number_up_to(9007199254740992, &s[..end]) else {
-        return Double::Long;
+    let Some(n) = number_up_to(9007199254740992, &s[..end]) else {
+        return Some(Double::Long);
     };
-    let Natural::Is(x) = number_up_to(9007199254740992, &s[end..]) else {
-        return far_double(s, n);
+    let Some(x) = number_up_to(9007199254740992, &s[end..]) else {
+        return Some(far_double(s, n));
     };
-    known_double(s, end, n, x)
+    Some(known_double(s, end, n, x))
 }

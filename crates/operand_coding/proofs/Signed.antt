@@ -10,17 +10,17 @@ use mir.Syntax.{w32, w64}
 use mir.Val.{Fits, SFits, to_z, of_z}
 use mir.ValLaws.{to_z-of_z}
 use borrow.Author.Tests.{le-ltb}
-use Rattle.numbers.specs.declared.Integer.TheVariants as I
+use Rattle.std.specs.Prelude.{Some}
 use Rattle.classes.specs.Lexemes.{acting_as}
 use Rattle.classes.proofs.OneToken.{acts_below, acts_above}
 use Rattle.movies.specs.Movie.{integer, number_in}
 use Rattle.action_records.specs.Fields.{two's_complement}
 
-acting : (z : ℤ) → acting_as (I.Is z) ≡ number_in (integer z)
+acting : (z : ℤ) → acting_as (Some z) ≡ number_in (integer z)
 acting (pos n) = refl
 acting (negsuc n) = refl
 
-acting_below : (z : ℤ) → SFits w32 z → acting_as (I.Is z) < 4294967296
+acting_below : (z : ℤ) → SFits w32 z → acting_as (Some z) < 4294967296
 acting_below (pos n) f = let h = f.sfits in omega arith
 acting_below (negsuc n) f = omega arith
 

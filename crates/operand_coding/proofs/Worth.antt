@@ -8,6 +8,9 @@ use native.Mathlib.Omega.{arith}
 use lib.Ieee.{Float, nan, inf}
 use lib.ListN.{length, length-take, length-drop}
 use borrow.Author.Tests.{le-ltb}
+use Rattle.std.specs.Prelude.{Some, None}
+use lib.IntN.{ℤ}
+use Rattle.std.specs.Prelude as Std
 use Rattle.answers.specs.declared.Refusal.{Refusal}
 use Rattle.answers.specs.Answers.{Answer, accepted, refused}
 use Rattle.tokens.specs.declared.TokenKind.{TokenKind}
@@ -16,8 +19,6 @@ use Rattle.tokens.specs.declared.Span.{Span}
 use Rattle.tokens.specs.declared.Token.{Token}
 use Rattle.tokens.specs.Kinds.{is_kind}
 use Rattle.tokens.specs.Tokens.{span, within, part, raw_text}
-use Rattle.numbers.specs.declared.Integer.{Integer}
-use Rattle.numbers.specs.declared.Integer.TheVariants as I
 use Rattle.numbers.specs.declared.Double.{Double}
 use Rattle.numbers.specs.declared.Double.TheVariants as D
 use Rattle.numbers.specs.Integers.{integer}
@@ -46,14 +47,14 @@ or_six_lem : (w : List ℕ) (o : Option PushValue) → worth w (or_six o) ≡ me
 or_six_lem w none = refl
 or_six_lem w (some v) = refl
 
-float_anyway : (w : List ℕ) (d : Double) (a b : Span) → meant (double_or_long d a) w ≡ meant (double_or_long d b) w
-float_anyway w (D.Is x) a b = refl
-float_anyway w D.Long a b = refl
-float_anyway w D.Nothing a b = refl
+float_anyway : (w : List ℕ) (d : Std.Option Double) (a b : Span) → meant (double_or_long d a) w ≡ meant (double_or_long d b) w
+float_anyway w (Some (D.Is x)) a b = refl
+float_anyway w (Some D.Long) a b = refl
+float_anyway w None a b = refl
 
-integer_anyway : (w : List ℕ) (z : Integer) (u v : Option PushValue) → meant u w ≡ meant v w → meant (integer_or z u) w ≡ meant (integer_or z v) w
-integer_anyway w (I.Is n) u v h = refl
-integer_anyway w I.Nothing u v h = h
+integer_anyway : (w : List ℕ) (z : Std.Option ℤ) (u v : Option PushValue) → meant u w ≡ meant v w → meant (integer_or z u) w ≡ meant (integer_or z v) w
+integer_anyway w (Some n) u v h = refl
+integer_anyway w None u v h = h
 
 anyway : (k : TokenKind) (w : List ℕ) (a b : Span) → meant (push_value k w a) w ≡ meant (push_value k w b) w
 unfolding push_value float_value integer_value
@@ -111,15 +112,15 @@ number_anyway (P.Long s) w = refl
 -- ---- strings and registers are told by their kinds
 
 module _ (w : List ℕ) where
-  float_plain : (d : Double) (s : Span) → (text_in (meant (double_or_long d s) w) ≡ []) × (is_register (meant (double_or_long d s) w) ≡ false)
-  float_plain (D.Is x) s = (refl, refl)
-  float_plain D.Long s = (refl, refl)
-  float_plain D.Nothing s = (refl, refl)
+  float_plain : (d : Std.Option Double) (s : Span) → (text_in (meant (double_or_long d s) w) ≡ []) × (is_register (meant (double_or_long d s) w) ≡ false)
+  float_plain (Some (D.Is x)) s = (refl, refl)
+  float_plain (Some D.Long) s = (refl, refl)
+  float_plain None s = (refl, refl)
 
-  integer-plain : (z : Integer) (d : Double) (s : Span)
+  integer-plain : (z : Std.Option ℤ) (d : Std.Option Double) (s : Span)
       → (text_in (meant (integer_or z (double_or_long d s)) w) ≡ []) × (is_register (meant (integer_or z (double_or_long d s)) w) ≡ false)
-  integer-plain (I.Is n) d s = (refl, refl)
-  integer-plain I.Nothing d s = float_plain d s
+  integer-plain (Some n) d s = (refl, refl)
+  integer-plain None d s = float_plain d s
 
   word_plain : (a b : Bool) (x y : Float)
       → (text_in (meant (cond a (some (P.Float x)) (cond b (some (P.Float y)) none)) w) ≡ [])

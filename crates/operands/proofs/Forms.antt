@@ -5,16 +5,15 @@ use mathlib.Core.List.{List, [], ◌∷◌}
 use Prim.Native.Nat.{ℕ, ◌+◌, ◌-◌, ◌≤◌, ◌<◌}
 use native.Mathlib.Omega.{arith}
 use lib.Dec.{eqb, ltb}
-use lib.IntN.{pos, negsuc}
+use lib.IntN.{ℤ, pos, negsuc}
 use lib.ListN.{length, get_or, set}
 use borrow.Author.Tests.{ltb-true, ltb-false, eqb-true, eqb-false, ne_eqb}
+use Rattle.std.specs.Prelude.{Option, Some, None}
 use Rattle.shapes.specs.declared.Shape.{Shape}
 use Rattle.shapes.specs.declared.Shape.TheVariants as S
 use Rattle.tokens.specs.declared.TokenKind.TheVariants as K
 use Rattle.tokens.specs.Kinds.{code_of, is_kind}
 use Rattle.tokens.specs.Tokens.{token_of, raw_text}
-use Rattle.numbers.specs.declared.Integer.{Integer}
-use Rattle.numbers.specs.declared.Integer.TheVariants as I
 use Rattle.numbers.specs.Integers.{is_natural, natural, integer}
 use Rattle.scanner.specs.Bytes.{run_of}
 use Rattle.values.specs.Values.{integer_text, i32_of}
@@ -112,14 +111,14 @@ pub name-bad : (text s a b : List ℕ) (c : At) (r : Step) → OperandRead C.Str
 name-bad text s a b c r v o = first_fails (operand string ∷ []) (mark p_comma ∷ []) text s a b c r v o
 
 -- an i32 is parsed of an Integer token alone
-on_integer : (f : Params) (t : Lexeme) (z : Integer) → is_integer z ≡ true → on_count f t (acting z) ≡ go (further (behind_count f (acting_as z))) (out (given t))
-on_integer f t (I.Is (pos n)) h = refl
-on_integer f t (I.Is (negsuc n)) h = refl
-on_integer f t I.Nothing h = absurd (false≢true h)
+on_integer : (f : Params) (t : Lexeme) (z : Option ℤ) → is_integer z ≡ true → on_count f t (acting z) ≡ go (further (behind_count f (acting_as z))) (out (given t))
+on_integer f t (Some (pos n)) h = refl
+on_integer f t (Some (negsuc n)) h = refl
+on_integer f t None h = absurd (false≢true h)
 
-no_integer : (f : Params) (t : Lexeme) (z : Integer) → is_integer z ≡ false → on_count f t (acting z) ≡ stop
-no_integer f t (I.Is n) h = absurd (false≢true (sym h))
-no_integer f t I.Nothing h = refl
+no_integer : (f : Params) (t : Lexeme) (z : Option ℤ) → is_integer z ≡ false → on_count f t (acting z) ≡ stop
+no_integer f t (Some n) h = absurd (false≢true (sym h))
+no_integer f t None h = refl
 
 count_goes : (f : Params) (t : Lexeme) (b : Bool) (w : List ℕ) → is_integer (integer (cond b w [])) ≡ true →
     cond b (on_count f t (acting (integer w))) stop ≡ go (further (behind_count f (acting_as (integer (cond b w []))))) (out (given t))

@@ -5,7 +5,6 @@
 ghost use Rattle.std.specs.Prelude.{◌≤◌, IfOk, length};
 
 use lexer::Lexing;
-use numbers::{Integer, Natural};
 use printing::{print_bits, print_number, print_refusal, print_signed, print_span, print_text};
 use std::io;
 use std::io::Read;
@@ -49,17 +48,17 @@ fn print_value(rt: HostRuntime, answer: TokenValue) {
     }
 }
 
-fn print_natural(rt: HostRuntime, n: Natural) {
+fn print_natural(rt: HostRuntime, n: Option<u64>) {
     match n {
-        Natural::Is(k) => print_number(rt, k),
-        Natural::Nothing => print_text(rt, b"none"),
+        Some(k) => print_number(rt, k),
+        None => print_text(rt, b"none"),
     }
 }
 
-fn print_integer(rt: HostRuntime, n: Integer) {
+fn print_integer(rt: HostRuntime, n: Option<i32>) {
     match n {
-        Integer::Is(k) => print_signed(rt, k),
-        Integer::Nothing => print_text(rt, b"none"),
+        Some(k) => print_signed(rt, k),
+        None => print_text(rt, b"none"),
     }
 }
 

@@ -9,25 +9,25 @@ use Rattle.keywords.proofs.word_kind.Goals as goal
 
 pub overflow_cast-result : goal.overflow_cast-result
 overflow_cast-result c =
-    omega (arith, small _ 65535 _ c.in-Is.n (sym c.number_after-constant.ensures ∙ c.in-Is.is))
+    omega (arith, small _ 65535 _ c.in-Some.n (sym c.number_after-constant.ensures ∙ c.in-Some.is))
 
-pub returns-in-Is : goal.returns-in-Is
+pub returns-in-Some : goal.returns-in-Some
 unfolding bytes
-returns-in-Is c =
+returns-in-Some c =
     let x = c.number_after-constant in
-    laws.constant _ x.result x.ensures c.in-Is.n c.in-Is.is
+    laws.constant _ x.result x.ensures c.in-Some.n c.in-Some.is
 
-pub overflow_cast-result-in-Is-register : goal.overflow_cast-result-in-Is-register
-overflow_cast-result-in-Is-register c =
-    omega (arith, small _ 255 _ c.in-Is-register.n (sym c.number_after-register.ensures ∙ c.in-Is-register.is))
+pub overflow_cast-result-in-Some-register : goal.overflow_cast-result-in-Some-register
+overflow_cast-result-in-Some-register c =
+    omega (arith, small _ 255 _ c.in-Some-register.n (sym c.number_after-register.ensures ∙ c.in-Some-register.is))
 
-pub returns-in-Is-register : goal.returns-in-Is-register
+pub returns-in-Some-register : goal.returns-in-Some-register
 unfolding bytes
-returns-in-Is-register c =
+returns-in-Some-register c =
     let y = c.number_after-register in
     let q = c in
     let x = q.number_after-constant in
-    laws.register _ x.result x.ensures q.in_default.is y.result y.ensures c.in-Is-register.n c.in-Is-register.is
+    laws.register _ x.result x.ensures q.in_default.is y.result y.ensures c.in-Some-register.n c.in-Some-register.is
 
 pub returns : goal.returns
 unfolding bytes

@@ -50,26 +50,26 @@ pub returns-in_default-number_up_to : goal.returns-in_default-number_up_to
 returns-in_default-number_up_to c =
     let is-number : is_number c.args.s.now ≡ true = sym c.is_number.ensures ∙ not-false _ c.if-not-is_number.false-raw in
     let text : List ℕ = c.args.s.now in
-    let digits : (c.in-Is.n ≡ w (text)) × (c.in-Is.n ≤ 9007199254740992) = let m = c in
-    laws.digits_told (text) _ m.mantissa_end-end.ensures _ c.number_up_to.ensures _ c.in-Is.is in
+    let digits : (c.in-Some.n ≡ w (text)) × (c.in-Some.n ≤ 9007199254740992) = let m = c in
+    laws.digits_told (text) _ m.mantissa_end-end.ensures _ c.number_up_to.ensures _ c.in-Some.is in
     let k = c in
     laws.known (text) (is-number) _ (digits).0 _ c.far_double.ensures
 
 pub known_double-requires : goal.known_double-requires
 known_double-requires c =
     let text : List ℕ = c.args.s.now in
-    let digits : (c.in-Is.n ≡ w (text)) × (c.in-Is.n ≤ 9007199254740992) = let m = c in
-    laws.digits_told (text) _ m.mantissa_end-end.ensures _ c.number_up_to.ensures _ c.in-Is.is in
+    let digits : (c.in-Some.n ≡ w (text)) × (c.in-Some.n ≤ 9007199254740992) = let m = c in
+    laws.digits_told (text) _ m.mantissa_end-end.ensures _ c.number_up_to.ensures _ c.in-Some.is in
     let k = c in
     let m = k in
-    let x = laws.exponent-told (text) _ m.mantissa_end-end.ensures _ c.number_up_to-2.ensures _ c.in-Is-number_up_to.is in
+    let x = laws.exponent-told (text) _ m.mantissa_end-end.ensures _ c.number_up_to-2.ensures _ c.in-Some-number_up_to.is in
     record { s_len_bound = (m.requires, m.mantissa_end-end.ensures); n_bound = ((digits).1, (x.1, x.0)) }
 
 pub returns : goal.returns
 returns c =
     let is-number : is_number c.args.s.now ≡ true = sym c.is_number.ensures ∙ not-false _ c.if-not-is_number.false-raw in
     let text : List ℕ = c.args.s.now in
-    let digits : (c.in-Is.n ≡ w (text)) × (c.in-Is.n ≤ 9007199254740992) = let m = c in
-    laws.digits_told (text) _ m.mantissa_end-end.ensures _ c.number_up_to.ensures _ c.in-Is.is in
+    let digits : (c.in-Some.n ≡ w (text)) × (c.in-Some.n ≤ 9007199254740992) = let m = c in
+    laws.digits_told (text) _ m.mantissa_end-end.ensures _ c.number_up_to.ensures _ c.in-Some.is in
     let k = c in
     laws.known (text) (is-number) _ (digits).0 _ c.known_double.ensures

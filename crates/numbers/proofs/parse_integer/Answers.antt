@@ -6,7 +6,7 @@ use native.Mathlib.Omega.{arith}
 use lib.ListN.{length}
 use mir.Syntax.{w32}
 use mir.ValLaws.{to_z-of_z}
-use Rattle.numbers.specs.declared.Integer.TheVariants as I
+use Rattle.std.specs.Prelude.{Some}
 use Rattle.numbers.proofs.Integers as laws
 use Rattle.numbers.proofs.parse_integer.Goals as goal
 
@@ -24,23 +24,24 @@ pub parse_natural-requires : goal.parse_natural-requires
 parse_natural-requires c =
     omega (arith, c.largest.ensures, laws.largest-small c.has_minus-negative.result)
 
-pub returns-in_default : goal.returns-in_default
-returns-in_default c =
+pub returns-in_err-n : goal.returns-in_err-n
+returns-in_err-n c =
     let l = c in
-    laws.signed_or_none l.args.s.now _ l.minus_end-digits.ensures _
-    l.has_minus-negative.ensures _ l.largest.ensures _ _ c.parse_natural.ensures c.in_default.is
+    c.from_residual.ensures
+    ∙ laws.signed_or_none l.args.s.now _ l.minus_end-digits.ensures _
+    l.has_minus-negative.ensures _ l.largest.ensures _ _ c.parse_natural.ensures c.in_err-n.was
 
 pub signed_number-requires : goal.signed_number-requires
 signed_number-requires c =
     let l = c in
-    subst (λ (top : ℕ). c.in-Is.n ≤ top) l.largest.ensures
-    (laws.natural-small l.largest.result _ c.in-Is.n
-    (sym c.parse_natural.ensures ∙ c.in-Is.is))
+    subst (λ (top : ℕ). c.in_ok-n.n ≤ top) l.largest.ensures
+    (laws.natural-small l.largest.result _ c.in_ok-n.n
+    (sym c.parse_natural.ensures ∙ c.in_ok-n.was))
 
 pub returns : goal.returns
 returns c =
     let l = c in
-    ap I.Is (to_z-of_z w32 c.signed_number.result (record { sfits = c.signed_number.type_inv }) ∙ c.signed_number.ensures)
+    ap Some (to_z-of_z w32 c.signed_number.result (record { sfits = c.signed_number.type_inv }) ∙ c.signed_number.ensures)
     ∙ laws.signed_or_none l.args.s.now _ l.minus_end-digits.ensures _
     l.has_minus-negative.ensures _ l.largest.ensures _ _ c.parse_natural.ensures
-    c.in-Is.is
+    c.in_ok-n.was
