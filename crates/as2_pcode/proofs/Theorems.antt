@@ -3,6 +3,7 @@
 -- words after an accepted reading: they are the tokens and the entries of the one reading, whatever the default d. `Reads`, the
 -- contract, and `Accepts` are defined in handover/specs/Reading, `Acceptable` and `Unreadable` in grammar/specs/Demand3. They
 -- assume nothing.
+use Rattle.std.specs.Prelude.{Ok, Err}
 use mathlib.Core.Path.{◌≡◌}
 use mathlib.Core.List.{List, map}
 use mathlib.Core.Logic.{◌↔◌}
@@ -24,9 +25,7 @@ use Rattle.grammar.specs.Refusals.{NotGrammatical}
 use Rattle.grammar.specs.Demand3.{Acceptable, Unreadable}
 use Rattle.reading.specs.Tables.{action_entries, operand_entry, level_entries, label_entry, label_entry_word}
 use Rattle.handover.specs.declared.Counts.{Counts}
-use Rattle.handover.specs.declared.Reading.{Reading}
-use Rattle.handover.specs.declared.Reading.TheVariants as R
-use Rattle.handover.specs.Reading.{Tables, places, Accepts, Reads}
+use Rattle.handover.specs.Reading.{Reading, Tables, places, Accepts, Reads}
 use Rattle.as2_pcode.proofs.Exactly as Exactly
 use Rattle.as2_pcode.proofs.Handed as Handed
 
@@ -36,20 +35,20 @@ module _ {L : Type 0} (entry : G.Label → L) (text : List ℕ) (x y : Tables L)
   room = length x.tokens
 
   -- it accepts exactly when none of 1 to 5, 7, 8 applies and the tokens have exactly one reading
-  pub accepts_exactly_when : ((c : Counts) × (r ≡ R.Read c)) ↔ ((Q : G.Reading) × Acceptable room (places x) text Q)
+  pub accepts_exactly_when : ((c : Counts) × (r ≡ Ok c)) ↔ ((Q : G.Reading) × Acceptable room (places x) text Q)
   accepts_exactly_when = Exactly.accepts_exactly_when entry text x y r h
 
   -- and hands that out
   pub hands_that_out : {Q : G.Reading} → Acceptable room (places x) text Q
-      → (c : Counts) × (r ≡ R.Read c) × (a : Accepts entry room (places x) text x y c) × (a.reading ≡ Q)
+      → (c : Counts) × (r ≡ Ok c) × (a : Accepts entry room (places x) text x y c) × (a.reading ≡ Q)
   hands_that_out m = Exactly.hands_that_out entry text x y r h m
 
   -- it answers 6 exactly when there is no reading and no 7 comes earlier
-  pub six_exactly_when : ((q : Refusal) × (r ≡ R.Refused q) × (number_of q ≡ 6)) ↔ Unreadable room text
+  pub six_exactly_when : ((q : Refusal) × (r ≡ Err q) × (number_of q ≡ 6)) ↔ Unreadable room text
   six_exactly_when = Exactly.six_exactly_when entry text x y r h
 
   -- at the first token that no grammatical list could have after those before it, or at the end
-  pub six_at : {q : Refusal} {ts : List Token} → r ≡ R.Refused q → number_of q ≡ 6 → lex_text text room ≡ accepted ts
+  pub six_at : {q : Refusal} {ts : List Token} → r ≡ Err q → number_of q ≡ 6 → lex_text text room ≡ accepted ts
       → NotGrammatical (numbered 0 text ts) (place_of q)
   six_at e n l = Exactly.six_at entry text x y r h e n l
 

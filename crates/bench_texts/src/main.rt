@@ -3,7 +3,8 @@
 // documents.
 #![tactic(auto)]
 
-use as2_pcode::{Counts, Reading};
+use answers::Refusal;
+use as2_pcode::Counts;
 use fronts::{Lent, least};
 use printing::{print_bits, print_number, print_refusal, print_signed, print_text};
 use tokens::Token;
@@ -197,13 +198,13 @@ const NO_ENTRIES: Counts = Counts {
 };
 
 // Prints a refusal, or the counts of a reading, and says how many entries each table has.
-fn entries_of(rt: HostRuntime, reading: Reading) -> Counts {
+fn entries_of(rt: HostRuntime, reading: Result<Counts, Refusal>) -> Counts {
     match reading {
-        Reading::Read(c) => {
+        Ok(c) => {
             print_counts(rt, c);
             c
         }
-        Reading::Refused(r) => {
+        Err(r) => {
             print_refusal(rt, r);
             NO_ENTRIES
         }
@@ -217,7 +218,7 @@ fn answer(
     operands: &[u64; 1024],
     levels: &[u64; 2048],
     labels: &[u64; 1024],
-    reading: Reading,
+    reading: Result<Counts, Refusal>,
 ) {
     let c = entries_of(rt, reading);
     print_operands(rt, text, words, operands, c.operands);

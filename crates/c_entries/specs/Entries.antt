@@ -1,6 +1,6 @@
 -- What the calls for C return and write of the entries of the tables, and of a reading. `old` is
 -- what an `out` array held; `sets old 0 l` is `old` with the entries of l in place of its first.
-use Rattle.std.specs.Prelude.{Bool, cond, List, [], ◌∷◌, ℕ, ℤ, pos}
+use Rattle.std.specs.Prelude.{Bool, cond, List, [], ◌∷◌, ℕ, ℤ, pos, Ok, Err}
 use Rattle.std.proofs.lemmas.List.Edits.{sets}
 use Rattle.actions.specs.Numbers.{number_of}
 use Rattle.answers.specs.Answers as A
@@ -13,8 +13,6 @@ use Rattle.entries.specs.declared.Net.TheVariants as N
 use Rattle.entries.specs.declared.Level.{Level}
 use Rattle.entries.specs.declared.Label.{Label}
 use Rattle.entries.specs.Entries.{owner_of}
-use Rattle.handover.specs.declared.Reading.{Reading}
-use Rattle.handover.specs.declared.Reading.TheVariants as R
 
 -- number, level, first operand entry and operand count of an action
 abbrev pub action_after : Action → List ℕ → List ℕ
@@ -65,10 +63,10 @@ height_after l old = sets old 0 (net_height l.net ∷ [])
 
 -- 0, or the number of the refusal
 abbrev pub read_number : Reading → ℕ
-read_number (R.Read c) = 0
-read_number (R.Refused r) = A.number_of r
+read_number (Ok c) = 0
+read_number (Err r) = A.number_of r
 
 -- the five counts, or the place of the refusal
 abbrev pub read_after : Reading → List ℕ → List ℕ
-read_after (R.Read c) old = sets old 0 (c.tokens ∷ c.actions ∷ c.operands ∷ c.levels ∷ c.labels ∷ [])
-read_after (R.Refused r) old = sets old 0 (A.place_of r ∷ [])
+read_after (Ok c) old = sets old 0 (c.tokens ∷ c.actions ∷ c.operands ∷ c.levels ∷ c.labels ∷ [])
+read_after (Err r) old = sets old 0 (A.place_of r ∷ [])

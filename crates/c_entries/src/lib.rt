@@ -4,8 +4,9 @@
 ghost use Rattle.std.specs.Prelude.{◌≡◌};
 ghost use Rattle.c_entries.specs.Entries.{action_after, one_if, operand_after, block_part, net_kind, net_action, net_height, level_after, height_after, label_after, read_number, read_after};
 
+use answers::Refusal;
 use entries::{Action, Block, Label, Level, Net, Operand, owner_of};
-use handover::Reading;
+use handover::Counts;
 
 pub fn tell_action(action: Action, out: &mut [u64; 4])
     ensures { out.new ≡ action_after action out.old }
@@ -97,12 +98,12 @@ pub fn tell_level(level: Level, out: &mut [u64; 6], height: &mut [i64; 1])
 
 // ---- reading
 
-pub fn tell_reading(answer: Reading, out: &mut [u64; 5]) -> u64
+pub fn tell_reading(answer: Result<Counts, Refusal>, out: &mut [u64; 5]) -> u64
     ensures value { result ≡ read_number answer }
     ensures out_after { out.new ≡ read_after answer out.old }
 {
     match answer {
-        Reading::Read(c) => {
+        Ok(c) => {
             out[0] = c.tokens as u64;
             out[1] = c.actions as u64;
             out[2] = c.operands as u64;
@@ -110,7 +111,7 @@ pub fn tell_reading(answer: Reading, out: &mut [u64; 5]) -> u64
             out[4] = c.labels as u64;
             0
         }
-        Reading::Refused(r) => {
+        Err(r) => {
             out[0] = answers::refusal_place(r) as u64;
             answers::refusal_number(r)
         }

@@ -1,7 +1,6 @@
 -- What reading would answer with nothing lent.
 use Rattle.std.specs.Prelude.{◌≡◌, List, ℕ, length}
-use Rattle.handover.specs.declared.Reading.{Reading}
-use Rattle.handover.specs.Reading.{Tables, places, ReadsWords}
+use Rattle.handover.specs.Reading.{Reading, Tables, places, ReadsWords}
 
 -- what reading would answer with any tables of so many places
 abbrev pub Checks : ℕ → (ps text : List ℕ) → Reading → Type 0

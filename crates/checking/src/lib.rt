@@ -4,7 +4,8 @@
 ghost use Rattle.std.specs.Prelude.{[], ◌∷◌, ◌≤◌, length};
 ghost use Rattle.checking.specs.Checks.{Checks};
 
-use as2_pcode::Reading;
+use answers::Refusal;
+use as2_pcode::Counts;
 use held::{read_held, token_count};
 
 fn check_1024(
@@ -14,7 +15,7 @@ fn check_1024(
     operands: usize,
     levels: usize,
     labels: usize,
-) -> Reading
+) -> Result<Counts, Refusal>
     requires { length text.now ≤ 1024 }
     ensures { Checks tokens (actions ∷ operands ∷ levels ∷ labels ∷ []) text.now result }
 {
@@ -48,7 +49,7 @@ fn check_4096(
     operands: usize,
     levels: usize,
     labels: usize,
-) -> Reading
+) -> Result<Counts, Refusal>
     requires { length text.now ≤ 4096 }
     ensures { Checks tokens (actions ∷ operands ∷ levels ∷ labels ∷ []) text.now result }
 {
@@ -83,7 +84,7 @@ fn check_65536(
     operands: usize,
     levels: usize,
     labels: usize,
-) -> Reading
+) -> Result<Counts, Refusal>
     ensures { Checks tokens (actions ∷ operands ∷ levels ∷ labels ∷ []) text.now result }
 {
     let mut held_tokens = [0u64; 65536];
@@ -118,7 +119,7 @@ pub fn check(
     operands: usize,
     levels: usize,
     labels: usize,
-) -> Reading
+) -> Result<Counts, Refusal>
     ensures { Checks tokens (actions ∷ operands ∷ levels ∷ labels ∷ []) text.now result }
 {
     if text.len() <= 1024 {

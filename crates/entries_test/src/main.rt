@@ -2,7 +2,8 @@
 // of level 0 that has a name.
 #![tactic(auto)]
 
-use as2_pcode::{Counts, Reading};
+use answers::Refusal;
+use as2_pcode::Counts;
 use entries::Label;
 use entry_reading::read_entries;
 use label_entries::{FoundLabel, find_label, label_at};
@@ -40,10 +41,16 @@ fn print_found(rt: HostRuntime, found: FoundLabel) {
     print_text(rt, b"\n");
 }
 
-fn print_answer(rt: HostRuntime, reading: Reading, first: Label, second: Label, found: FoundLabel) {
+fn print_answer(
+    rt: HostRuntime,
+    reading: Result<Counts, Refusal>,
+    first: Label,
+    second: Label,
+    found: FoundLabel,
+) {
     match reading {
-        Reading::Read(c) => print_counts(rt, c),
-        Reading::Refused(r) => print_refusal(rt, r),
+        Ok(c) => print_counts(rt, c),
+        Err(r) => print_refusal(rt, r),
     }
     print_label(rt, first);
     print_label(rt, second);

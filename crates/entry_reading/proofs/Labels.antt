@@ -1,4 +1,5 @@
 -- Label words in scratch: they are read as for the lent labels, and the reading's labels come back from them. Assumes nothing.
+use Rattle.std.specs.Prelude.{Ok, Err}
 use mathlib.Core.Path.{◌≡◌, refl, sym, ap, ◌∙◌}
 use mathlib.Core.Logic.{inl}
 use mathlib.Core.List.{List, [], ◌∷◌, ◌++◌, map}
@@ -11,9 +12,7 @@ use Rattle.entries.specs.declared.Label.{Label}
 use Rattle.entries.specs.Entries.{level_places, label_of}
 use Rattle.reading.specs.Tables.{front, label_entry, label_entry_word}
 use Rattle.handover.specs.declared.Counts.{Counts}
-use Rattle.handover.specs.declared.Reading.{Reading}
-use Rattle.handover.specs.declared.Reading.TheVariants as R
-use Rattle.handover.specs.Reading.{Tables, lent, Accepts, Reads, ReadsWords}
+use Rattle.handover.specs.Reading.{Reading, Tables, lent, Accepts, Reads, ReadsWords}
 use Rattle.as2_pcode.proofs.Theorems.{labels-handed}
 use Rattle.held.specs.Held.{AmpleEntries}
 use Rattle.held.proofs.Fills.{inside, refilled, labels_fill, labels_fit}
@@ -59,19 +58,19 @@ module _ (text tk ac op lv ws tk' ac' op' lv' ws' : List ℕ) (ls : List Label) 
   pub enough : (r : Reading) {n : ℕ} → n ≡ label_count r → ReadsScratch (length ls) text (lent tk ac op lv ws) (lent tk' ac' op' lv' ws') r
       → (n ≤ length ws') × (n ≤ length ls)
   unfolding ReadsScratch
-  enough (R.Read c) e a = (omega (arith, e, inside (labels_fill a)), omega (arith, e, labels_fit a))
-  enough (R.Refused r) e a = (omega (arith, e), omega (arith, e))
+  enough (Ok c) e a = (omega (arith, e, inside (labels_fill a)), omega (arith, e, labels_fit a))
+  enough (Err r) e a = (omega (arith, e), omega (arith, e))
 
   pub handed : (r : Reading) {n : ℕ} {ls' : List Label} → n ≡ label_count r → ReadsScratch (length ls) text (lent tk ac op lv ws) (lent tk' ac' op' lv' ws') r
       → ls' ≡ map label_of (take n ws') ++ drop n ls → Reads label_entry text (lent tk ac op lv ls) (lent tk' ac' op' lv' ls') r
   unfolding ReadsScratch Reads
-  handed (R.Read c) {n} {ls'} n-is a e =
+  handed (Ok c) {n} {ls'} n-is a e =
       let es = map label_entry a.reading.labels in
       let made : ls' ≡ front es ls =
       e ∙ ap (λ (m : ℕ). map label_of (take m ws') ++ drop m ls) n-is ∙ ap (λ (l : List Label). l ++ drop c.labels ls) (labels_back a)
       ∙ ap (λ (m : ℕ). es ++ drop m ls) (ap (λ (k : Counts). k.labels) a.counts ∙ sym (length-map a.reading.labels label_entry)) in
       refilled a (λ i. record { tokens = (a.tables i).tokens; actions = (a.tables i).actions; operands = (a.tables i).operands; levels = (a.tables i).levels; labels = made i })
-  handed (R.Refused r) {n} {ls'} n-is a e =
+  handed (Err r) {n} {ls'} n-is a e =
       let same : ls' ≡ ls = e ∙ ap (λ (m : ℕ). map label_of (take m ws') ++ drop m ls) n-is in (
         a.0,
         λ i. record { tokens = (a.1 i).tokens; actions = (a.1 i).actions; operands = (a.1 i).operands; levels = (a.1 i).levels; labels = same i },

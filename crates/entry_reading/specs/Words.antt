@@ -1,10 +1,8 @@
 -- What the inner functions tell of label words in scratch. No public contract cites it.
-use Rattle.std.specs.Prelude.{List, [], ◌∷◌, ℕ, length}
+use Rattle.std.specs.Prelude.{List, [], ◌∷◌, ℕ, length, Ok, Err}
 use Rattle.entries.specs.Entries.{level_places}
 use Rattle.reading.specs.Tables.{label_entry_word}
-use Rattle.handover.specs.declared.Reading.{Reading}
-use Rattle.handover.specs.declared.Reading.TheVariants as R
-use Rattle.handover.specs.Reading.{Tables, ReadsFor}
+use Rattle.handover.specs.Reading.{Reading, Tables, ReadsFor}
 
 -- the answer r to a text with the tables x lent, scratch for label words among them, and `room` places for labels
 unfoldable pub ReadsScratch : ℕ → List ℕ → (x y : Tables ℕ) → Reading → Type 0
@@ -13,5 +11,5 @@ ReadsScratch room text x y r =
 
 -- the labels that are handed out
 abbrev pub label_count : Reading → ℕ
-label_count (R.Read c) = c.labels
-label_count (R.Refused r) = 0
+label_count (Ok c) = c.labels
+label_count (Err r) = 0

@@ -7,18 +7,19 @@ ghost use Rattle.handover.specs.Reading.{Reads, lent};
 ghost use Rattle.held.specs.Held.{AmpleEntries};
 ghost use Rattle.entry_reading.specs.Words.{ReadsScratch, label_count};
 
-use as2_pcode::Reading;
+use answers::Refusal;
+use as2_pcode::Counts;
 use entries::Label;
 use held::least;
 use label_entries::put_labels;
 
 // How many labels a reading has handed out.
-fn label_count(reading: Reading) -> usize
+fn label_count(reading: Result<Counts, Refusal>) -> usize
     ensures { result ≡ label_count reading }
 {
     match reading {
-        Reading::Read(counts) => counts.labels,
-        Reading::Refused(_) => 0,
+        Ok(counts) => counts.labels,
+        Err(_) => 0,
     }
 }
 
@@ -31,7 +32,7 @@ fn read_words(
     levels: &mut [u64],
     words: &mut [u64],
     room: usize,
-) -> Reading
+) -> Result<Counts, Refusal>
     requires { AmpleEntries (length text.now) (length words.old) }
     ensures { ReadsScratch room text.now (lent tokens.old actions.old operands.old levels.old words.old) (lent tokens.new actions.new operands.new levels.new words.new) result }
 {
@@ -47,7 +48,7 @@ fn read_small(
     operands: &mut [u64],
     levels: &mut [u64],
     labels: &mut [Label],
-) -> Reading
+) -> Result<Counts, Refusal>
     requires { length text.now ≤ 4096 }
     ensures { Reads label_entry text.now (lent tokens.old actions.old operands.old levels.old labels.old) (lent tokens.new actions.new operands.new levels.new labels.new) result }
 {
@@ -66,7 +67,7 @@ fn read_large(
     operands: &mut [u64],
     levels: &mut [u64],
     labels: &mut [Label],
-) -> Reading
+) -> Result<Counts, Refusal>
     ensures { Reads label_entry text.now (lent tokens.old actions.old operands.old levels.old labels.old) (lent tokens.new actions.new operands.new levels.new labels.new) result }
 {
     let mut words = [0u64; 32769];
@@ -86,7 +87,7 @@ pub fn read_entries(
     operands: &mut [u64],
     levels: &mut [u64],
     labels: &mut [Label],
-) -> Reading
+) -> Result<Counts, Refusal>
     ensures { Reads label_entry text.now (lent tokens.old actions.old operands.old levels.old labels.old) (lent tokens.new actions.new operands.new levels.new labels.new) result }
 {
     if text.len() <= 4096 {

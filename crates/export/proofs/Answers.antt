@@ -1,4 +1,5 @@
 -- What export answers, by what reading and the passes answered. Assumes nothing.
+use Rattle.std.specs.Prelude.{Ok, Err}
 use mathlib.Core.Path.{◌≡◌, refl, ap, sym, subst, ◌∙◌}
 use mathlib.Core.List.{List, [], ◌∷◌, ◌++◌, append-nil}
 use Prim.Native.Nat.{ℕ, zero, suc, ◌*◌}
@@ -8,9 +9,7 @@ use Rattle.answers.specs.declared.Refusal.{Refusal}
 use Rattle.answers.specs.Answers.{accepted, refusal}
 use Rattle.reading.specs.Tables.{front, label_entry_word}
 use Rattle.handover.specs.declared.Counts.{Counts}
-use Rattle.handover.specs.declared.Reading.{Reading}
-use Rattle.handover.specs.declared.Reading.TheVariants as R
-use Rattle.handover.specs.Reading.{Tables, lent, places, filled, Accepts}
+use Rattle.handover.specs.Reading.{Reading, Tables, lent, places, filled, Accepts}
 use Rattle.as2_pcode.proofs.Handed.{read}
 use Rattle.held.specs.Held.{Holds, handed}
 use Rattle.held.proofs.Cut.{few-levels as few}
@@ -72,11 +71,11 @@ module _ {room : ℕ} {ps text : List ℕ} {old h : Tables ℕ} {c : Counts} (a 
 -- ---- the answers
 
 module _ (style : Style) (text : List ℕ) (h x : Tables ℕ) (r : Reading) (w : Holds (length x.tokens) (places x) text h r) (o : List ℕ) where
-  pub not_read : (f : Refusal) → r ≡ R.Refused f → Exports style text x x o o (E.Refused f)
+  pub not_read : (f : Refusal) → r ≡ Err f → Exports style text x x o o (E.Refused f)
   unfolding Exports
   not_read f e = (unread (held-refused w e), (refl, refl))
 
-  module _ (c : Counts) (e : r ≡ R.Read c) where
+  module _ (c : Counts) (e : r ≡ Ok c) where
     abbrev a : Accepts label_entry_word (length x.tokens) (places x) text w.before h c
     a = held-read w e
 

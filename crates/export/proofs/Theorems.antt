@@ -1,5 +1,6 @@
 -- THE THEOREMS about export. `Exports`, the contract, and `Asked` are defined in export/specs, `exported`, the bytes or the answer that
 -- refuses them, in action_records/specs/Export. They assume nothing.
+use Rattle.std.specs.Prelude.{Ok, Err}
 use mathlib.Core.Path.{◌≡◌, refl, sym, ap, subst, ◌∙◌}
 use mathlib.Core.List.{List}
 use Prim.Native.Nat.{ℕ, ◌*◌, ◌≤◌}
@@ -17,7 +18,6 @@ use Rattle.grammar.proofs.Texts.{unlike, same-accepted}
 use Rattle.grammar.proofs.Theorems.{one_answer}
 use Rattle.grammar.proofs.Unique.{one_told}
 use Rattle.handover.specs.declared.Counts.{Counts}
-use Rattle.handover.specs.declared.Reading.TheVariants as R
 use Rattle.handover.specs.Reading.{Tables, places, Reads, ReadsWords}
 use Rattle.action_records.specs.declared.Style.{Style}
 use Rattle.action_records.specs.Export.{exported}
@@ -46,18 +46,18 @@ module _ {B L : Type 0} (f : Items → Answer B) (x : Tables L) (text : List ℕ
 -- the tables x have become y, and the output o has become o'
 module _ (style : Style) (text : List ℕ) (x y : Tables ℕ) (o o' : List ℕ) where
   -- what reading refuses is refused alike, and not written
-  pub refused_alike : (z : Tables ℕ) (q r : Refusal) → ReadsWords text x z (R.Refused q) → Exports style text x y o o' (E.Refused r)
+  pub refused_alike : (z : Tables ℕ) (q r : Refusal) → ReadsWords text x z (Err q) → Exports style text x y o o' (E.Refused r)
       → ◌≡◌ {A = Answer (List ℕ)} (refusal r) (refusal q)
   unfolding Exports Reads
   refused_alike z q r p e = one (exported style (length o)) x text e.0 (unread p.0)
 
-  pub refused_unwritten : (z : Tables ℕ) (q : Refusal) (c : Counts) (n : ℕ) → ReadsWords text x z (R.Refused q) → ¬ Exports style text x y o o' (E.Written c n)
+  pub refused_unwritten : (z : Tables ℕ) (q : Refusal) (c : Counts) (n : ℕ) → ReadsWords text x z (Err q) → ¬ Exports style text x y o o' (E.Written c n)
   unfolding Exports Reads
   refused_unwritten z q c n p w = unlike refl (one (exported style (length o)) x text w.answer (unread p.0))
 
   module _ (c : Counts) (n : ℕ) (w : Exports style text x y o o' (E.Written c n)) where
     -- what is written is read, and the tables are filled as by `read`
-    pub read_alike : ReadsWords text x y (R.Read c)
+    pub read_alike : ReadsWords text x y (Ok c)
     unfolding Exports Reads
     read_alike = w.reads
 

@@ -9,7 +9,7 @@ ghost use Rattle.export.specs.Parts.{HeldBy, PassedBy};
 
 use action_records::Style;
 use answers::Refusal;
-use as2_pcode::{Counts, Reading};
+use as2_pcode::Counts;
 use export_scratch::export_reading;
 use exporting::Passed;
 use held::{hand_held, read_held};
@@ -50,7 +50,7 @@ fn pass_held(
 
 fn finish(
     text: &[u8],
-    reading: Reading,
+    reading: Result<Counts, Refusal>,
     held_tokens: &[u64],
     held_actions: &[u64],
     held_operands: &[u64],
@@ -68,8 +68,8 @@ fn finish(
     ensures { Exports style text.now (lent tokens.old actions.old operands.old levels.old labels.old) (lent tokens.new actions.new operands.new levels.new labels.new) out.old out.new result }
 {
     match reading {
-        Reading::Refused(r) => Exporting::Refused(r),
-        Reading::Read(c) => {
+        Err(r) => Exporting::Refused(r),
+        Ok(c) => {
             let passed = pass_held(
                 text,
                 c,

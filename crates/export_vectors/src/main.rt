@@ -9,7 +9,8 @@
 ghost use Rattle.std.specs.Prelude.{◌≤◌};
 
 use action_records::Style;
-use as2_pcode::{Counts, Reading};
+use answers::Refusal;
+use as2_pcode::Counts;
 use export::Exporting;
 use export_fronts::{
     MARK, MARK_BYTE, answer_number, answer_place, are_marked, export_fronts, same_bytes, same_words,
@@ -143,9 +144,9 @@ fn same_tables(
     same_words(labels, other_labels)
 }
 
-fn same_counts(c: Counts, reading: Reading) -> bool {
+fn same_counts(c: Counts, reading: Result<Counts, Refusal>) -> bool {
     match reading {
-        Reading::Read(n) => {
+        Ok(n) => {
             if n.tokens != c.tokens {
                 return false;
             }
@@ -160,7 +161,7 @@ fn same_counts(c: Counts, reading: Reading) -> bool {
             }
             n.labels == c.labels
         }
-        Reading::Refused(_) => false,
+        Err(_) => false,
     }
 }
 

@@ -4,7 +4,8 @@
 
 ghost use Rattle.std.specs.Prelude.{◌≤◌};
 
-use as2_pcode::Reading;
+use answers::Refusal;
+use as2_pcode::Counts;
 
 pub fn read_whole(
     text: &[u8],
@@ -13,7 +14,7 @@ pub fn read_whole(
     operands: &mut [u64],
     levels: &mut [u64],
     labels: &mut [u64],
-) -> Reading {
+) -> Result<Counts, Refusal> {
     as2_pcode::read(text, tokens, actions, operands, levels, labels)
 }
 
@@ -45,7 +46,7 @@ pub fn read_fronts(
     operands: &mut [u64],
     levels: &mut [u64],
     labels: &mut [u64],
-) -> Reading {
+) -> Result<Counts, Refusal> {
     let a = least(lent.tokens, tokens.len());
     let b = least(lent.actions, actions.len());
     let c = least(lent.operands, operands.len());

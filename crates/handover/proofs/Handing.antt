@@ -1,4 +1,5 @@
 -- `read_log`: row 8, or the tables of the reading. Assumes nothing.
+use Rattle.std.specs.Prelude.{Ok, Err}
 use mathlib.Core.Path.{◌≡◌, refl, sym, ap, ◌∙◌, subst}
 use mathlib.Core.List.{List, [], ◌∷◌, ◌++◌, map}
 use Prim.Native.Nat.{ℕ, zero, suc, ◌≤◌, ◌<◌}
@@ -24,7 +25,6 @@ use Rattle.reading.proofs.Tallies.{TreeCounts, tallied}
 use Rattle.labelling.specs.declared.Put.{Put}
 use Rattle.labelling.specs.declared.Put.TheVariants as P
 use Rattle.labelling.specs.Putting.{Asked, PutOf}
-use Rattle.handover.specs.declared.Reading.TheVariants as R
 use Rattle.handover.specs.Reading.{Tables, places, Reads, ReadsWords, lent}
 use Rattle.handover.specs.Scratch.{lowest_short}
 use Rattle.handover.proofs.Rows.{Lowest, found, none, wider}
@@ -59,7 +59,7 @@ module _ (text s log tokens actions operands levels labels : List ℕ) (r : Logg
   all_needed : (n : ℕ) → n ≡ length (reading_of tree).labels → c.actions ∷ c.operands ∷ c.levels ∷ n ∷ [] ≡ entries (reading_of tree)
   all_needed n e = λ i. counts.actions i ∷ counts.operands i ∷ counts.levels i ∷ e i ∷ []
 
-  refused-at : (k n : ℕ) → n ≡ length (reading_of tree).labels → Lowest (places had) (c.actions ∷ c.operands ∷ c.levels ∷ n ∷ []) k → ReadsWords text had had (R.Refused (F.TableShort k))
+  refused-at : (k n : ℕ) → n ≡ length (reading_of tree).labels → Lowest (places had) (c.actions ∷ c.operands ∷ c.levels ∷ n ∷ []) k → ReadsWords text had had (Err (F.TableShort k))
   unfolding Reads
   refused-at k n e g =
       let a = all_needed n e in (
@@ -76,7 +76,7 @@ module _ (text s log tokens actions operands levels labels : List ℕ) (r : Logg
   abbrev lowest : ℕ
   lowest = lowest_short (length actions ∷ length operands ∷ level_places levels ∷ []) (c.actions ∷ c.operands ∷ c.levels ∷ [])
 
-  pub row8 : (k : ℕ) → k ≡ lowest → k < 3 → ReadsWords text had had (R.Refused (F.TableShort k))
+  pub row8 : (k : ℕ) → k ≡ lowest → k < 3 → ReadsWords text had had (Err (F.TableShort k))
   row8 k e h =
       let ps = length actions ∷ length operands ∷ level_places levels ∷ [] in
       let es = c.actions ∷ c.operands ∷ c.levels ∷ [] in
@@ -97,10 +97,10 @@ module _ (text s log tokens actions operands levels labels : List ℕ) (r : Logg
     levels-room : c.levels ≤ level_places levels
     levels-room = let n = roomy 2 in omega (arith, n)
 
-    pub row8_labels : (labels' : List ℕ) → PutOf tree labels labels' P.Short → ReadsWords text had (lent tokens actions operands levels labels') (R.Refused (F.TableShort 3))
+    pub row8_labels : (labels' : List ℕ) → PutOf tree labels labels' P.Short → ReadsWords text had (lent tokens actions operands levels labels') (Err (F.TableShort 3))
     unfolding PutOf
     row8_labels labels' p =
-        subst (λ l. ReadsWords text had (lent tokens actions operands levels l) (R.Refused (F.TableShort 3))) (sym p.1)
+        subst (λ l. ReadsWords text had (lent tokens actions operands levels l) (Err (F.TableShort 3))) (sym p.1)
         (refused-at 3 (length (reading_of tree).labels) refl (record { short = p.0; lowest = before }))
       where
         before : (j : ℕ) → j < 3 → ¬ (get_or (places had) j 0 < get_or (c.actions ∷ c.operands ∷ c.levels ∷ length (reading_of tree).labels ∷ []) j 0)
@@ -109,7 +109,7 @@ module _ (text s log tokens actions operands levels labels : List ℕ) (r : Logg
         before (suc (suc zero)) i w = omega (arith, w, levels-room)
         before (suc (suc (suc j))) i w = omega arith
 
-    pub no_room : (labels' : List ℕ) (q : Put) → PutOf tree labels labels' q → q ≡ P.Short → ReadsWords text had (lent tokens actions operands levels labels') (R.Refused (F.TableShort 3))
+    pub no_room : (labels' : List ℕ) (q : Put) → PutOf tree labels labels' q → q ≡ P.Short → ReadsWords text had (lent tokens actions operands levels labels') (Err (F.TableShort 3))
     no_room labels' q p f = row8_labels labels' (subst (PutOf tree labels labels') f p)
 
     module _ (tokens' actions' operands' levels' labels' : List ℕ) (m : ℕ) (p : PutOf tree labels labels' (P.Labels m))
@@ -130,7 +130,7 @@ module _ (text s log tokens actions operands levels labels : List ℕ) (r : Logg
       none-short e₁ l (suc (suc (suc (suc j)))) v = omega (arith, v)
 
       pub accepted-all : ReadsWords text had (lent tokens' actions' operands' levels' labels')
-          (R.Read (record { tokens = length s; actions = c.actions; operands = c.operands; levels = c.levels; labels = m }))
+          (Ok (record { tokens = length s; actions = c.actions; operands = c.operands; levels = c.levels; labels = m }))
       unfolding Reads PutOf
       accepted-all =
           let n : length s ≡ length r.tokens = ap length r.words ∙ length-map r.tokens word_of in
@@ -154,6 +154,6 @@ module _ (text s log tokens actions operands levels labels : List ℕ) (r : Logg
     pub accepted_put : (tokens' actions' operands' levels' labels' : List ℕ) (m : ℕ) (q : Put) → PutOf tree labels labels' q → q ≡ P.Labels m
         → Writes text s log actions operands levels actions' operands' levels' → tokens' ≡ take (length s) s ++ drop (length s) tokens
         → ReadsWords text had (lent tokens' actions' operands' levels' labels')
-        (R.Read (record { tokens = length s; actions = c.actions; operands = c.operands; levels = c.levels; labels = m }))
+        (Ok (record { tokens = length s; actions = c.actions; operands = c.operands; levels = c.levels; labels = m }))
     accepted_put tokens' actions' operands' levels' labels' m q p f w t =
         accepted-all tokens' actions' operands' levels' labels' m (subst (PutOf tree labels labels') f p) w t

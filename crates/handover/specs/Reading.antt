@@ -1,8 +1,9 @@
 -- What reading a text answers, and what the lent tables hold then: document 01, 'The call'. The answer is the grammar's
 -- (`Answers`); a refusal changes no table; acceptance changes only the entries it fills. A label entry is a word for `read`
 -- and a struct for `read_entries`: L is its type, and `entry` the entry of a label.
-use Rattle.std.specs.Prelude.{◌≡◌, List, [], ◌∷◌, map, ℕ, length}
+use Rattle.std.specs.Prelude.{◌≡◌, List, [], ◌∷◌, map, ℕ, length, Result, Ok, Err}
 use Rattle.answers.specs.Answers.{accepted, refusal}
+use Rattle.answers.specs.declared.Refusal.{Refusal}
 use Rattle.lexer.specs.Lexing.{lex_text}
 use Rattle.tokens.specs.declared.Token.{Token}
 use Rattle.tokens.specs.Tokens.{word_of}
@@ -13,8 +14,10 @@ use Rattle.grammar.specs.Nets.{Net, Nets}
 use Rattle.grammar.specs.Refusals.{Answers}
 use Rattle.reading.specs.Tables.{front, action_words, operand_words, level_words, label_entry_word}
 use Rattle.handover.specs.declared.Counts.{Counts}
-use Rattle.handover.specs.declared.Reading.{Reading}
-use Rattle.handover.specs.declared.Reading.TheVariants as R
+
+-- what reading answers
+abbrev pub Reading : Type 0
+Reading = Result Counts Refusal
 
 -- the five lent tables
 pub record Tables (L : Type 0) : Type 0 where
@@ -61,8 +64,8 @@ module _ {L : Type 0} (entry : G.Label → L) where
 
   -- the answer r to a text, for so many places, with the tables x, which are then y
   abbrev pub ReadsFor : ℕ → (places text : List ℕ) → (x y : Tables L) → Reading → Type 0
-  ReadsFor room places text x y (R.Read c) = Accepts room places text x y c
-  ReadsFor room places text x y (R.Refused r) = Answers room places text (refusal r) × (y ≡ x)
+  ReadsFor room places text x y (Ok c) = Accepts room places text x y c
+  ReadsFor room places text x y (Err r) = Answers room places text (refusal r) × (y ≡ x)
 
   -- for the places of the tables x themselves
   unfoldable pub Reads : List ℕ → Tables L → Tables L → Reading → Type 0

@@ -21,12 +21,6 @@ pub struct Counts {
     pub labels: usize,
 }
 
-#[derive(Clone, Copy)]
-pub enum Reading {
-    Read(Counts),
-    Refused(Refusal),
-}
-
 // The lowest of tables 0 to 2 with fewer places than entries; 3 if there is none. A level takes two words.
 fn short_table(c: Count, actions: usize, operands: usize, levels: usize) -> usize
     ensures { result ≡ lowest_short (actions ∷ operands ∷ levels ∷ []) (c.actions ∷ c.operands ∷ c.levels ∷ []) }
@@ -53,23 +47,23 @@ pub fn read_log(
     operands: &mut [u64],
     levels: &mut [u64],
     labels: &mut [u64],
-) -> Reading
+) -> Result<Counts, Refusal>
     requires { Logged text.now (length tokens.old) s.now log.now }
     ensures { ReadsWords text.now (lent tokens.old actions.old operands.old levels.old labels.old) (lent tokens.new actions.new operands.new levels.new labels.new) result }
 {
     let c = counting::count_log(log);
     let short = short_table(c, actions.len(), operands.len(), levels.len() / 2);
     if short < 3 {
-        return Reading::Refused(Refusal::TableShort(short));
+        return Err(Refusal::TableShort(short));
     }
     let put = labelling::put_labels(text, s, log, c.labels, c.levels, labels);
     let Put::Labels(m) = put else {
-        return Reading::Refused(Refusal::TableShort(3));
+        return Err(Refusal::TableShort(3));
     };
     writing::write_tables(text, s, log, actions, operands, levels);
     let n = s.len();
     copy_front(s, n, tokens);
-    Reading::Read(Counts {
+    Ok(Counts {
         tokens: n,
         actions: c.actions,
         operands: c.operands,

@@ -1,5 +1,6 @@
 -- THE LAW of held tables: a table that is cut to the places of a lent one answers for it, if it has places for whatever a text
 -- can have. Assumes nothing.
+use Rattle.std.specs.Prelude.{Ok, Err}
 use mathlib.Core.Path.{◌≡◌, refl, sym, ap, subst, ◌∙◌}
 use mathlib.Core.Bool.{Bool, true, false, cond}
 use mathlib.Core.Logic.{◌⊎◌, inl, inr}
@@ -23,9 +24,7 @@ use Rattle.grammar.proofs.Theorems.{halves}
 use Rattle.entries.specs.Entries.{level_places}
 use Rattle.reading.specs.Tables.{front, label_entry_word}
 use Rattle.handover.specs.declared.Counts.{Counts}
-use Rattle.handover.specs.declared.Reading.{Reading}
-use Rattle.handover.specs.declared.Reading.TheVariants as R
-use Rattle.handover.specs.Reading.{Tables, places, lent, Accepts, Reads, ReadsFor, ReadsWords}
+use Rattle.handover.specs.Reading.{Reading, Tables, places, lent, Accepts, Reads, ReadsFor, ReadsWords}
 use Rattle.as2_pcode.proofs.Handed.{lexed, read}
 use Rattle.as2_pcode.proofs.Kept.{numbered-length}
 use Rattle.held.specs.Held.{AmpleTokens, AmpleEntries, Ample}
@@ -144,7 +143,7 @@ module _ {L : Type 0} (entry : G.Label → L) (text : List ℕ) (room : ℕ) (ps
     (s : Serves (AmpleTokens (length text) (length p.tokens)) (length p.tokens) room) (s' : AllServe (length text) (places p) ps) where
   pub cut : (r : Reading) → Reads entry text p y r → ReadsFor entry room ps text x z r
   unfolding Reads
-  cut (R.Read c) a =
+  cut (Ok c) a =
       record {
         tokens = a.tokens;
         reading = a.reading;
@@ -161,7 +160,7 @@ module _ {L : Type 0} (entry : G.Label → L) (text : List ℕ) (room : ℕ) (ps
         };
         counts = a.counts;
       }
-  cut (R.Refused f) a = (
+  cut (Err f) a = (
     serves text (length p.tokens) room (places p) ps s s' a.0,
     λ i. record {
       tokens = part_same t.tokens (ap (λ (q : Tables L). q.tokens) a.1) i;

@@ -1,4 +1,5 @@
 -- What an accepted reading puts into each table: how many words, and that they have a place. Assumes nothing.
+use Rattle.std.specs.Prelude.{Ok, Err}
 use mathlib.Core.Path.{◌≡◌, sym, ap, ◌∙◌}
 use mathlib.Core.List.{List, map}
 use Prim.Native.Nat.{ℕ, ◌*◌, ◌≤◌, ◌<◌}
@@ -14,9 +15,7 @@ use Rattle.reading.specs.Tables.{front, action_entries, level_entries, action_wo
 use Rattle.reading.proofs.Entries.{entry_count, level-count}
 use Rattle.reading.proofs.LevelSets.{words-length}
 use Rattle.handover.specs.declared.Counts.{Counts}
-use Rattle.handover.specs.declared.Reading.{Reading}
-use Rattle.handover.specs.declared.Reading.TheVariants as R
-use Rattle.handover.specs.Reading.{Tables, filled, Accepts, ReadsFor}
+use Rattle.handover.specs.Reading.{Reading, Tables, filled, Accepts, ReadsFor}
 use Rattle.as2_pcode.proofs.Handed.{from-text, nets-long}
 use Rattle.held.specs.Held.{Holds, token_count}
 
@@ -100,5 +99,5 @@ pub no_more : {room : ℕ} {ps text : List ℕ} {h : Tables ℕ} {r : Reading} �
 no_more {room} {ps} {text} {h} {r} w n e g = omega (arith, few-read r w.reads, e, g)
   where
     few-read : (q : Reading) → ReadsFor label_entry_word room ps text w.before h q → token_count q ≤ length text
-    few-read (R.Read c) a = few-tokens a
-    few-read (R.Refused f) a = omega arith
+    few-read (Ok c) a = few-tokens a
+    few-read (Err f) a = omega arith

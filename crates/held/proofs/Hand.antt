@@ -1,4 +1,5 @@
 -- What held tables tell, and what they are handed over as. Assumes nothing.
+use Rattle.std.specs.Prelude.{Ok, Err}
 use mathlib.Core.Path.{◌≡◌, sym, ap, subst, ◌∙◌}
 use mathlib.Core.List.{List, ◌++◌}
 use Prim.Native.Nat.{ℕ}
@@ -10,9 +11,7 @@ use Rattle.answers.specs.declared.Refusal.{Refusal}
 use Rattle.grammar.specs.Refusals.{Answers}
 use Rattle.reading.specs.Tables.{front, label_entry_word}
 use Rattle.handover.specs.declared.Counts.{Counts}
-use Rattle.handover.specs.declared.Reading.{Reading}
-use Rattle.handover.specs.declared.Reading.TheVariants as R
-use Rattle.handover.specs.Reading.{Tables, places, filled, Accepts, ReadsFor}
+use Rattle.handover.specs.Reading.{Reading, Tables, places, filled, Accepts, ReadsFor}
 use Rattle.held.specs.Held.{Holds, Handable, handed}
 use Rattle.held.proofs.Fills.{Fills, inside, refilled, tokens_fill, actions_fill, operands_fill, levels_fill, labels_fill, tokens_fit, actions_fit, operands_fit, levels_fit, labels_fit}
 use Rattle.held.proofs.Cut.{few-levels}
@@ -20,10 +19,10 @@ use Rattle.held.proofs.Cut.{few-levels}
 -- ---- what was read, and what was refused
 
 module _ {room : ℕ} {ps text : List ℕ} {h : Tables ℕ} {r : Reading} (w : Holds room ps text h r) where
-  pub held-read : {c : Counts} → r ≡ R.Read c → Accepts label_entry_word room ps text w.before h c
+  pub held-read : {c : Counts} → r ≡ Ok c → Accepts label_entry_word room ps text w.before h c
   held-read e = subst (ReadsFor label_entry_word room ps text w.before h) e w.reads
 
-  pub held-refused : {f : Refusal} → r ≡ R.Refused f → Answers room ps text (refusal f)
+  pub held-refused : {f : Refusal} → r ≡ Err f → Answers room ps text (refusal f)
   held-refused e = (subst (ReadsFor label_entry_word room ps text w.before h) e w.reads).0
 
 -- ---- handing over

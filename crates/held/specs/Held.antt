@@ -1,12 +1,10 @@
 -- Tables that a call holds itself, to read a text into them, perhaps to refuse it still, and to hand over at the end: what calls
 -- over `read` ask for and are told.
-use Rattle.std.specs.Prelude.{List, ◌++◌, ℕ, ◌+◌, ◌*◌, ◌≤◌, length, take, drop}
+use Rattle.std.specs.Prelude.{List, ◌++◌, ℕ, ◌+◌, ◌*◌, ◌≤◌, length, take, drop, Ok, Err}
 use Rattle.entries.specs.Entries.{level_places}
 use Rattle.reading.specs.Tables.{label_entry_word}
 use Rattle.handover.specs.declared.Counts.{Counts}
-use Rattle.handover.specs.declared.Reading.{Reading}
-use Rattle.handover.specs.declared.Reading.TheVariants as R
-use Rattle.handover.specs.Reading.{Tables, ReadsFor}
+use Rattle.handover.specs.Reading.{Reading, Tables, ReadsFor}
 
 -- places for the tokens of any text of n bytes that row 1 lets pass: one for each byte
 abbrev pub AmpleTokens : ℕ → ℕ → Type 0
@@ -30,8 +28,8 @@ pub record Holds (room : ℕ) (ps text : List ℕ) (h : Tables ℕ) (r : Reading
 
 -- how many tokens were read
 abbrev pub token_count : Reading → ℕ
-token_count (R.Read c) = c.tokens
-token_count (R.Refused r) = 0
+token_count (Ok c) = c.tokens
+token_count (Err r) = 0
 
 -- ---- handing over
 

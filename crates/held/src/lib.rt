@@ -7,7 +7,8 @@ ghost use Rattle.std.specs.Prelude.{◌≡◌, [], ◌∷◌, min, length};
 ghost use Rattle.handover.specs.Reading.{lent};
 ghost use Rattle.held.specs.Held.{Ample, Holds, token_count, Handable, handed};
 
-use as2_pcode::{Counts, Reading};
+use answers::Refusal;
+use as2_pcode::Counts;
 use tables::copy_front;
 
 // The lesser of two numbers.
@@ -31,7 +32,7 @@ pub fn read_held(
     held_operands: &mut [u64],
     held_levels: &mut [u64],
     held_labels: &mut [u64],
-) -> Reading
+) -> Result<Counts, Refusal>
     requires { Ample (length text.now) (lent held_tokens.old held_actions.old held_operands.old held_levels.old held_labels.old) }
     ensures { Holds tokens (actions ∷ operands ∷ levels ∷ labels ∷ []) text.now (lent held_tokens.new held_actions.new held_operands.new held_levels.new held_labels.new) result }
 {
@@ -75,11 +76,11 @@ pub fn hand_held(
 }
 
 // How many tokens were read.
-pub fn token_count(reading: Reading) -> usize
+pub fn token_count(reading: Result<Counts, Refusal>) -> usize
     ensures { result ≡ token_count reading }
 {
     match reading {
-        Reading::Read(counts) => counts.tokens,
-        Reading::Refused(_) => 0,
+        Ok(counts) => counts.tokens,
+        Err(_) => 0,
     }
 }

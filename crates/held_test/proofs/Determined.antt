@@ -1,4 +1,5 @@
 -- The top level's net in held tables, and the three answers of the example. Assumes nothing.
+use Rattle.std.specs.Prelude.{Ok, Err}
 use mathlib.Core.Path.{◌≡◌, refl, sym, ap, subst, ◌∙◌}
 use mathlib.Core.Bool.{Bool, true, false}
 use mathlib.Core.Logic.{inl, inr}
@@ -16,9 +17,7 @@ use Rattle.entries.specs.declared.Level.{Level}
 use Rattle.entries.specs.Entries.{level_of, level_in}
 use Rattle.reading.specs.Tables.{level_entries, label_entry_word}
 use Rattle.handover.specs.declared.Counts.{Counts}
-use Rattle.handover.specs.declared.Reading.{Reading}
-use Rattle.handover.specs.declared.Reading.TheVariants as R
-use Rattle.handover.specs.Reading.{Tables, places, Accepts}
+use Rattle.handover.specs.Reading.{Reading, Tables, places, Accepts}
 use Rattle.as2_pcode.proofs.Handed.{read, nets-long}
 use Rattle.as2_pcode.proofs.Theorems.{levels-handed}
 use Rattle.held.specs.Held.{Holds, handed}
@@ -45,17 +44,17 @@ module _ {room : ℕ} {ps text : List ℕ} {x y : Tables ℕ} {c : Counts} (a : 
 -- ---- the answers
 
 module _ (text : List ℕ) (h x : Tables ℕ) (r : Reading) (w : Holds (length x.tokens) (places x) text h r) where
-  pub refused : (f : Refusal) → r ≡ R.Refused f → ReadsDetermined text x x (R.Refused f)
+  pub refused : (f : Refusal) → r ≡ Err f → ReadsDetermined text x x (Err f)
   unfolding ReadsDetermined
   refused f e = (inl (held-refused w e), refl)
 
-  module _ (c : Counts) (e : r ≡ R.Read c) (k : Bool) (t : k ≡ is_undetermined (level_in h.levels 0).net) where
-    pub undetermined : k ≡ true → ReadsDetermined text x x (R.Refused F.Undetermined)
+  module _ (c : Counts) (e : r ≡ Ok c) (k : Bool) (t : k ≡ is_undetermined (level_in h.levels 0).net) where
+    pub undetermined : k ≡ true → ReadsDetermined text x x (Err F.Undetermined)
     unfolding ReadsDetermined
     undetermined f =
         let a = held-read w e in
         (inr (refl, record { tables = handed c h x; counts = c; accepts = hands text w.before h x c a (handed c h x) refl; net = sym (top-net a) ∙ sym t ∙ f }), refl)
 
-    pub determined : k ≡ false → (y : Tables ℕ) → y ≡ handed c h x → ReadsDetermined text x y (R.Read c)
+    pub determined : k ≡ false → (y : Tables ℕ) → y ≡ handed c h x → ReadsDetermined text x y (Ok c)
     unfolding ReadsDetermined
     determined f y g = let a = held-read w e in (hands text w.before h x c a y g, sym (top-net a) ∙ sym t ∙ f)

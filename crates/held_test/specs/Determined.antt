@@ -1,5 +1,5 @@
 -- The example: a text is read if the net of its top level is determined, and else refused by 9, after all of reading's refusals.
-use Rattle.std.specs.Prelude.{◌≡◌, Bool, true, false, List, ◌⊎◌, ℕ, pos, length, get_or}
+use Rattle.std.specs.Prelude.{◌≡◌, Bool, true, false, List, ◌⊎◌, ℕ, pos, length, get_or, Ok, Err}
 use Rattle.answers.specs.Answers.{refusal}
 use Rattle.answers.specs.declared.Refusal.TheVariants as F
 use Rattle.grammar.specs.Nets.{Net, height}
@@ -8,9 +8,7 @@ use Rattle.entries.specs.declared.Net as E
 use Rattle.entries.specs.declared.Net.TheVariants as N
 use Rattle.reading.specs.Tables.{net_entry, label_entry_word}
 use Rattle.handover.specs.declared.Counts.{Counts}
-use Rattle.handover.specs.declared.Reading.{Reading}
-use Rattle.handover.specs.declared.Reading.TheVariants as R
-use Rattle.handover.specs.Reading.{Tables, places, Accepts}
+use Rattle.handover.specs.Reading.{Reading, Tables, places, Accepts}
 
 abbrev pub is_undetermined : E.Net → Bool
 is_undetermined (N.Height h) = false
@@ -29,7 +27,7 @@ pub record Undetermined (text : List ℕ) (x : Tables ℕ) : Type 0 where
 
 -- the answer r to a text with the tables x lent, which are then y
 unfoldable pub ReadsDetermined : List ℕ → Tables ℕ → Tables ℕ → Reading → Type 0
-ReadsDetermined text x y (R.Read c) =
+ReadsDetermined text x y (Ok c) =
     (a : Accepts label_entry_word (length x.tokens) (places x) text x y c) × (is_undetermined (top_net a.nets) ≡ false)
-ReadsDetermined text x y (R.Refused f) =
+ReadsDetermined text x y (Err f) =
     (Answers (length x.tokens) (places x) text (refusal f) ⊎ ((f ≡ F.Undetermined) × Undetermined text x)) × (y ≡ x)

@@ -10,7 +10,7 @@ ghost use Rattle.held.specs.Held.{Holds};
 ghost use Rattle.held_test.specs.Determined.{is_undetermined, ReadsDetermined};
 
 use answers::Refusal;
-use as2_pcode::{Counts, Reading};
+use as2_pcode::Counts;
 use checking::check;
 use entries::{Net, level_in};
 use held::{hand_held, read_held};
@@ -31,7 +31,7 @@ fn is_undetermined(levels: &[u64]) -> bool
 // The work of the call, over held tables of any size.
 fn finish(
     text: &[u8],
-    reading: Reading,
+    reading: Result<Counts, Refusal>,
     held_tokens: &[u64],
     held_actions: &[u64],
     held_operands: &[u64],
@@ -42,15 +42,15 @@ fn finish(
     operands: &mut [u64],
     levels: &mut [u64],
     labels: &mut [u64],
-) -> Reading
+) -> Result<Counts, Refusal>
     requires { Holds (length tokens.old) (places (lent tokens.old actions.old operands.old levels.old labels.old)) text.now (lent held_tokens.now held_actions.now held_operands.now held_levels.now held_labels.now) reading }
     ensures { ReadsDetermined text.now (lent tokens.old actions.old operands.old levels.old labels.old) (lent tokens.new actions.new operands.new levels.new labels.new) result }
 {
     match reading {
-        Reading::Refused(r) => Reading::Refused(r),
-        Reading::Read(counts) => {
+        Err(r) => Err(r),
+        Ok(counts) => {
             if is_undetermined(held_levels) {
-                return Reading::Refused(Refusal::Undetermined);
+                return Err(Refusal::Undetermined);
             }
             hand_held(
                 counts,
@@ -65,7 +65,7 @@ fn finish(
                 levels,
                 labels,
             );
-            Reading::Read(counts)
+            Ok(counts)
         }
     }
 }
@@ -79,7 +79,7 @@ fn read_determined(
     operands: &mut [u64],
     levels: &mut [u64],
     labels: &mut [u64],
-) -> Reading
+) -> Result<Counts, Refusal>
     ensures { ReadsDetermined text.now (lent tokens.old actions.old operands.old levels.old labels.old) (lent tokens.new actions.new operands.new levels.new labels.new) result }
 {
     let mut held_tokens = [0u64; 65536];
@@ -132,10 +132,10 @@ fn print_counts(rt: HostRuntime, c: Counts) {
     print_field(rt, c.labels);
 }
 
-fn print_answer(rt: HostRuntime, reading: Reading) {
+fn print_answer(rt: HostRuntime, reading: Result<Counts, Refusal>) {
     match reading {
-        Reading::Read(c) => print_counts(rt, c),
-        Reading::Refused(r) => print_refusal(rt, r),
+        Ok(c) => print_counts(rt, c),
+        Err(r) => print_refusal(rt, r),
     }
 }
 

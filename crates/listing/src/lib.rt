@@ -1,7 +1,8 @@
 // The listing of a reading: document 01, the paragraph on `pcode-list`.
 #![tactic(auto)]
 
-use as2_pcode::{Counts, Reading};
+use answers::Refusal;
+use as2_pcode::Counts;
 use entries::Label;
 use names::ActionName;
 use pcode::StackDelta;
@@ -94,15 +95,15 @@ pub fn print_reading(
     actions: &[u64],
     operands: &[u64],
     labels: &[u64],
-    r: Reading,
+    r: Result<Counts, Refusal>,
 ) {
     match r {
-        Reading::Read(c) => {
+        Ok(c) => {
             print_counts(rt, c);
             print_actions(rt, text, tokens, actions, operands, c.actions);
             print_labels(rt, text, tokens, labels, c.labels);
         }
-        Reading::Refused(refusal) => {
+        Err(refusal) => {
             print_refusal(rt, refusal);
             print_text(rt, b"\n");
         }

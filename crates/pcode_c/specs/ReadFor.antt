@@ -1,8 +1,7 @@
 -- What `pcode_read` returns and writes. `pcode_export` has `ExportFor`; the other calls' contracts cite `c_tokens` and `c_entries` alone.
 use Rattle.std.specs.Prelude.{◌≡◌, List, ℕ}
 use Rattle.c_entries.specs.Entries.{read_number, read_after}
-use Rattle.handover.specs.declared.Reading.{Reading}
-use Rattle.handover.specs.Reading.{Tables, ReadsWords}
+use Rattle.handover.specs.Reading.{Reading, Tables, ReadsWords}
 
 -- what reading answers, told to C: n is returned, the tables x have become y, and `old` has become `new`
 pub record ReadFor (text : List ℕ) (x y : Tables ℕ) (old new : List ℕ) (n : ℕ) : Type 0 where

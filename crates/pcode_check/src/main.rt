@@ -3,7 +3,7 @@
 // and makes the exit status.
 #![tactic(auto)]
 
-use as2_pcode::{Counts, Reading};
+use as2_pcode::Counts;
 use files::{Input, Outcome, Tally};
 use printing::{Stream, print_number, print_text, write_text};
 use reporting::print_name;
@@ -31,11 +31,11 @@ fn check_text(rt: HostRuntime, name: &[u8], text: &[u8]) -> Outcome {
         &mut labels,
     );
     match reading {
-        Reading::Read(c) => {
+        Ok(c) => {
             print_ok(rt, name, c);
             Outcome::Read(reporting::print_warnings(rt, name, text, &tokens, &operands, c.operands))
         }
-        Reading::Refused(r) => {
+        Err(r) => {
             reporting::print_refused(rt, Stream::Output, name, text, &mut tokens, r);
             Outcome::Refused
         }

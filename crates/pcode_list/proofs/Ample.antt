@@ -1,4 +1,5 @@
 -- Tables with a place for each byte of a text, and one for the top level, are never too short for it. Assumes nothing.
+use Rattle.std.specs.Prelude.{Ok, Err}
 use mathlib.Core.Path.{◌≡◌, refl, sym, subst}
 use mathlib.Core.Bool.{Bool, true, false, cond}
 use mathlib.Core.List.{List, [], ◌∷◌}
@@ -20,9 +21,7 @@ use Rattle.grammar.specs.Reading as G
 use Rattle.grammar.specs.Refusals.{Outcome, row₆, row₇, reads, Short, Answers, rows₁₋₅, rows₆₋₇, row₈}
 use Rattle.grammar.proofs.Theorems.{ample}
 use Rattle.entries.specs.Entries.{level_places}
-use Rattle.handover.specs.declared.Reading.{Reading}
-use Rattle.handover.specs.declared.Reading.TheVariants as R
-use Rattle.handover.specs.Reading.{Tables, places, Reads, ReadsWords}
+use Rattle.handover.specs.Reading.{Reading, Tables, places, Reads, ReadsWords}
 use Rattle.as2_pcode.proofs.Kept.{numbered-length}
 use Rattle.pcode_list.specs.Listed.{NeverShort}
 
@@ -95,7 +94,7 @@ module _ (text : List ℕ) (room n : ℕ) (h : length text ≤ room) (g : length
 pub never_short : (text : List ℕ) (x y : Tables ℕ) (r : Reading) (n : ℕ) → length text ≤ length x.tokens → length text + 1 ≤ n
     → length x.actions ≡ n → length x.operands ≡ n → level_places x.levels ≡ n → length x.labels ≡ n → ReadsWords text x y r → NeverShort r
 unfolding Reads
-never_short text x y (R.Read c) n h g e₀ e₁ e₂ e₃ a = tt
-never_short text x y (R.Refused r) n h g e₀ e₁ e₂ e₃ a =
+never_short text x y (Ok c) n h g e₀ e₁ e₂ e₃ a = tt
+never_short text x y (Err r) n h g e₀ e₁ e₂ e₃ a =
     let all : places x ≡ n ∷ n ∷ n ∷ n ∷ [] = λ i. e₀ i ∷ e₁ i ∷ e₂ i ∷ e₃ i ∷ [] in
     other text (length x.tokens) n h g (subst (λ (ps : List ℕ). Answers (length x.tokens) ps text (refusal r)) all a.0)

@@ -6,7 +6,7 @@ ghost use Rattle.handover.specs.Reading.{lent};
 ghost use Rattle.pcode_list.specs.Listed.{Listed, NeverShort};
 
 use answers::Refusal;
-use as2_pcode::Reading;
+use as2_pcode::Counts;
 use files::Input;
 
 // How many bytes of a text are listed.
@@ -20,12 +20,12 @@ fn read_listed(
     operands: &mut [u64; 4097],
     levels: &mut [u64; 8194],
     labels: &mut [u64; 4097],
-) -> Reading
+) -> Result<Counts, Refusal>
     ensures listed { Listed text.now (lent tokens.old actions.old operands.old levels.old labels.old) (lent tokens.new actions.new operands.new levels.new labels.new) result }
     ensures never_short { NeverShort result }
 {
     if MOST < text.len() {
-        return Reading::Refused(Refusal::TooLong);
+        return Err(Refusal::TooLong);
     }
     as2_pcode::read(text, tokens, actions, operands, levels, labels)
 }
@@ -38,16 +38,16 @@ fn print_listed(
     actions: &[u64; 4097],
     operands: &[u64; 4097],
     labels: &[u64; 4097],
-    r: Reading,
+    r: Result<Counts, Refusal>,
 ) {
     listing::print_reading(rt, text, tokens, actions, operands, labels, r);
 }
 
 // 0: listed; 1: refused.
-fn status_of(r: Reading) -> u64 {
+fn status_of(r: Result<Counts, Refusal>) -> u64 {
     match r {
-        Reading::Read(_) => 0,
-        Reading::Refused(_) => 1,
+        Ok(_) => 0,
+        Err(_) => 1,
     }
 }
 

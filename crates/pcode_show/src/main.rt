@@ -2,7 +2,7 @@
 // the root has the options and makes the exit status.
 #![tactic(auto)]
 
-use as2_pcode::{Counts, Reading};
+use as2_pcode::Counts;
 use files::{Input, Outcome, Tally};
 use printing::{Stream, print_text};
 use reporting::print_name;
@@ -31,12 +31,12 @@ fn show_text(rt: HostRuntime, name: &[u8], text: &[u8]) -> Outcome {
         &mut labels,
     );
     match reading {
-        Reading::Read(c) => {
+        Ok(c) => {
             print_head(rt, name, c);
             showing::print_shown(rt, text, &tokens, &actions, &operands, &levels, &labels, c);
             Outcome::Read(0)
         }
-        Reading::Refused(r) => {
+        Err(r) => {
             reporting::print_refused(rt, Stream::Output, name, text, &mut tokens, r);
             Outcome::Refused
         }

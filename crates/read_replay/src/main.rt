@@ -3,7 +3,8 @@
 // closed, and the count of those that were not, are left out.
 #![tactic(auto)]
 
-use as2_pcode::{Counts, Reading};
+use answers::Refusal;
+use as2_pcode::Counts;
 use entries::{Level, Net, Operand};
 use records::{Cursor, expect, expect_i32, expect_signed, number_from, print_count};
 use std::io;
@@ -176,13 +177,11 @@ fn expect_answer(
     operands: &[u64; 1024],
     levels: &[u64; 2048],
     labels: &[u64; 1024],
-    reading: Reading,
+    reading: Result<Counts, Refusal>,
 ) -> Cursor {
     match reading {
-        Reading::Read(n) => expect_reading(
-            list, c, text, words, acted, operands, levels, labels, n,
-        ),
-        Reading::Refused(r) => entry_records::expect_refusal(list, c, r),
+        Ok(n) => expect_reading(list, c, text, words, acted, operands, levels, labels, n),
+        Err(r) => entry_records::expect_refusal(list, c, r),
     }
 }
 
@@ -221,10 +220,10 @@ const NO_ENTRIES: Counts = Counts {
     labels: 0,
 };
 
-fn counts_of(reading: Reading) -> Counts {
+fn counts_of(reading: Result<Counts, Refusal>) -> Counts {
     match reading {
-        Reading::Read(n) => n,
-        Reading::Refused(_) => NO_ENTRIES,
+        Ok(n) => n,
+        Err(_) => NO_ENTRIES,
     }
 }
 
@@ -256,7 +255,13 @@ fn with(t: Totals, n: Counts, c: Cursor) -> Totals {
 }
 
 // Only the first difference is told.
-fn count(rt: HostRuntime, path: &str, reading: Reading, c: Cursor, t: Totals) -> Totals {
+fn count(
+    rt: HostRuntime,
+    path: &str,
+    reading: Result<Counts, Refusal>,
+    c: Cursor,
+    t: Totals,
+) -> Totals {
     if t.differences == 0 {
         records::print_difference(rt, t.texts, path.as_bytes(), c.wrong);
     }

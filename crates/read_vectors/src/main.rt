@@ -4,7 +4,8 @@
 // by the jumps (document 02, §7), its label written last (§6), and how often a label was written (§3).
 #![tactic(auto)]
 
-use as2_pcode::Reading;
+use answers::Refusal;
+use as2_pcode::Counts;
 use entry_records::{Entries, Totals};
 use fronts::Lent;
 use records::{Cursor, number_from};
@@ -41,15 +42,15 @@ const NO_ENTRIES: Entries = Entries {
     labels: 0,
 };
 
-fn entries_of(reading: Reading) -> Entries {
+fn entries_of(reading: Result<Counts, Refusal>) -> Entries {
     match reading {
-        Reading::Read(n) => Entries {
+        Ok(n) => Entries {
             actions: n.actions,
             operands: n.operands,
             levels: n.levels,
             labels: n.labels,
         },
-        Reading::Refused(_) => NO_ENTRIES,
+        Err(_) => NO_ENTRIES,
     }
 }
 
@@ -62,15 +63,15 @@ fn expect_answer(
     operands: &[u64; 2048],
     levels: &[u64; 4096],
     labels: &[u64; 2048],
-    reading: Reading,
+    reading: Result<Counts, Refusal>,
 ) -> Cursor {
     match reading {
-        Reading::Read(_) => {
+        Ok(_) => {
             let c = records::expect(list, c, 0);
             let n = entries_of(reading);
             entry_records::expect_entries(list, c, text, words, acted, operands, levels, labels, n)
         }
-        Reading::Refused(r) => entry_records::expect_refusal(list, c, r),
+        Err(r) => entry_records::expect_refusal(list, c, r),
     }
 }
 
@@ -79,7 +80,7 @@ fn count(
     rt: HostRuntime,
     words: &[u64; 2048],
     operands: &[u64; 2048],
-    reading: Reading,
+    reading: Result<Counts, Refusal>,
     c: Cursor,
     t: Totals,
 ) -> Totals {

@@ -5,7 +5,8 @@ ghost use Rattle.std.specs.Prelude.{◌≤◌, length};
 ghost use Rattle.utf8.specs.Utf8.{valid_up_to};
 ghost use Rattle.handover.specs.Reading.{ReadsWords as Reads, lent};
 
-use handover::{Reading, read_log};
+use answers::Refusal;
+use handover::{Counts, read_log};
 use reading::Parsing;
 
 // Reads over scratch for the tokens and the log.
@@ -18,7 +19,7 @@ fn read_over(
     operands: &mut [u64],
     levels: &mut [u64],
     labels: &mut [u64],
-) -> Reading
+) -> Result<Counts, Refusal>
     requires text_len_bound { length text.now ≤ 65536 }
     requires text_len_bound_2 { length text.now ≤ valid_up_to text.now }
     requires text_in_bounds { (length text.now ≤ length s.old) × (length text.now ≤ length log.old) }
@@ -27,7 +28,7 @@ fn read_over(
     let room = tokens.len();
     let parsing = reading::parse_text(text, room, s, log);
     match parsing {
-        Parsing::Refused(r) => Reading::Refused(r),
+        Parsing::Refused(r) => Err(r),
         Parsing::Events(n, e) => {
             let words = &s[..n];
             let events = &log[..e];
@@ -48,7 +49,7 @@ fn read_1024(
     operands: &mut [u64],
     levels: &mut [u64],
     labels: &mut [u64],
-) -> Reading
+) -> Result<Counts, Refusal>
     requires text_len_bound { length text.now ≤ 1024 }
     requires text_len_bound_2 { length text.now ≤ valid_up_to text.now }
     ensures { Reads text.now (lent tokens.old actions.old operands.old levels.old labels.old) (lent tokens.new actions.new operands.new levels.new labels.new) result }
@@ -67,7 +68,7 @@ fn read_4096(
     operands: &mut [u64],
     levels: &mut [u64],
     labels: &mut [u64],
-) -> Reading
+) -> Result<Counts, Refusal>
     requires text_len_bound { length text.now ≤ 4096 }
     requires text_len_bound_2 { length text.now ≤ valid_up_to text.now }
     ensures { Reads text.now (lent tokens.old actions.old operands.old levels.old labels.old) (lent tokens.new actions.new operands.new levels.new labels.new) result }
@@ -87,7 +88,7 @@ fn read_16384(
     operands: &mut [u64],
     levels: &mut [u64],
     labels: &mut [u64],
-) -> Reading
+) -> Result<Counts, Refusal>
     requires text_len_bound { (length text.now ≤ 16384) × (length text.now ≤ valid) }
     requires text_len_bound_2 { length text.now ≤ valid_up_to text.now }
     ensures { Reads text.now (lent tokens.old actions.old operands.old levels.old labels.old) (lent tokens.new actions.new operands.new levels.new labels.new) result }
@@ -110,7 +111,7 @@ fn read_65536(
     operands: &mut [u64],
     levels: &mut [u64],
     labels: &mut [u64],
-) -> Reading
+) -> Result<Counts, Refusal>
     requires text_len_bound { (length text.now ≤ 65536) × (length text.now ≤ valid) }
     requires text_len_bound_2 { length text.now ≤ valid_up_to text.now }
     ensures { Reads text.now (lent tokens.old actions.old operands.old levels.old labels.old) (lent tokens.new actions.new operands.new levels.new labels.new) result }
@@ -134,7 +135,7 @@ pub fn read_valid(
     operands: &mut [u64],
     levels: &mut [u64],
     labels: &mut [u64],
-) -> Reading
+) -> Result<Counts, Refusal>
     requires text_len_bound { (length text.now ≤ 65536) × (length text.now ≤ valid) }
     requires text_len_bound_2 { length text.now ≤ valid_up_to text.now }
     ensures { Reads text.now (lent tokens.old actions.old operands.old levels.old labels.old) (lent tokens.new actions.new operands.new levels.new labels.new) result }
