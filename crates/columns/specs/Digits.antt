@@ -1,5 +1,5 @@
 -- A number's digit.
-use Rattle.std.specs.Prelude.{ℕ, cond, ◌+◌, ◌<◌, nat_lt}
+use Rattle.std.specs.Prelude.{ℕ, cond, ◌+◌, nat_lt}
 
 -- the ASCII code of a digit below 16: `0` to `9`, then `a` to `f`
 abbrev pub hex_digit_ascii : ℕ → ℕ

@@ -1,7 +1,7 @@
 // What is shown, put together in columns and printed a buffer at a time: a write for each word takes too long.
 #![tactic(auto)]
 
-ghost use Rattle.std.specs.Prelude.{◌≡◌, ◌-◌, ◌<◌, max, nat_abs};
+ghost use Rattle.std.specs.Prelude.{◌≡◌, ◌-◌, ◌<◌, ◌≤◌, max};
 ghost use Rattle.columns.specs.Digits.{hex_digit_ascii};
 
 use itoa::Buffer;
@@ -10,15 +10,14 @@ use printing::print_text;
 // No column lies further out; what runs on past it is counted no more.
 const WIDEST: usize = 4096;
 
-// How many bytes of the buffer are filled, and how many characters of the line.
-#[derive(Clone, Copy)]
-pub struct Cursor {
+// A buffer of what is not printed yet: how many of its bytes are filled, and how many characters of the line.
+#[derive(Drop)]
+pub struct Columns {
+    rt: HostRuntime,
+    buffer: [u8; 4096],
     at: usize,
     column: usize,
-}
-
-pub fn start() -> Cursor {
-    Cursor { at: 0, column: 0 }
+    ghost in_buffer: { at ≤ 4096 },
 }
 
 // A later byte of a character takes no column.
@@ -26,67 +25,17 @@ fn column_after(column: usize, b: u8) -> usize {
     if b == b'\n' {
         return 0;
     }
-    if places::is_tail(b) {
-        return column;
-    }
-    if WIDEST <= column {
+    if places::is_tail(b) || WIDEST <= column {
         return column;
     }
     column + 1
-}
-
-// A full buffer is printed, and filled anew.
-pub fn put_byte(rt: HostRuntime, out: &mut [u8; 4096], c: Cursor, b: u8) -> Cursor {
-    let at = c.at;
-    let column = column_after(c.column, b);
-    if at < 4096 {
-        out[at] = b;
-        return Cursor { at: at + 1, column };
-    }
-    print_text(rt, out);
-    out[0] = b;
-    Cursor { at: 1, column }
-}
-
-pub fn put_text(rt: HostRuntime, out: &mut [u8; 4096], c: Cursor, text: &[u8]) -> Cursor {
-    let mut c = c;
-    let mut i = 0;
-    while i < text.len() {
-        c = put_byte(rt, out, c, text[i]);
-        i += 1;
-    }
-    c
 }
 
 // How many spaces part what ends at a place of the line from a column: two at least.
 fn gap(at: usize, column: usize) -> usize
     ensures { result ≡ max 2 (column - at) }
 {
-    if column < at {
-        return 2;
-    }
-    let left = column - at;
-    if left < 2 {
-        return 2;
-    }
-    left
-}
-
-// Spaces up to a column; what has run on past it is parted from what follows all the same.
-pub fn put_column(rt: HostRuntime, out: &mut [u8; 4096], c: Cursor, column: usize) -> Cursor {
-    let n = gap(c.column, column);
-    let mut c = c;
-    let mut i = 0;
-    while i < n {
-        c = put_byte(rt, out, c, b' ');
-        i += 1;
-    }
-    c
-}
-
-pub fn put_number(rt: HostRuntime, out: &mut [u8; 4096], c: Cursor, n: u64) -> Cursor {
-    let mut digits = Buffer::new();
-    put_text(rt, out, c, digits.format(n).as_bytes())
+    column.saturating_sub(at).max(2)
 }
 
 fn hex_digit(n: u8) -> u8
@@ -96,90 +45,93 @@ fn hex_digit(n: u8) -> u8
     if n < 10 { 48 + n } else { 87 + n }
 }
 
-// A double's bits, 16 hexadecimal digits.
-pub fn put_bits(rt: HostRuntime, out: &mut [u8; 4096], c: Cursor, bits: u64) -> Cursor {
-    let mut c = c;
-    for i in 0..16u32 {
-        c = put_byte(rt, out, c, hex_digit(((bits >> (60 - 4 * i)) % 16) as u8));
+impl Columns {
+    pub fn new(rt: HostRuntime) -> Columns {
+        Columns {
+            rt,
+            buffer: [0; 4096],
+            at: 0,
+            column: 0,
+        }
     }
-    c
-}
 
-// A byte as two hexadecimal digits.
-pub fn put_pair(rt: HostRuntime, out: &mut [u8; 4096], c: Cursor, b: u8) -> Cursor {
-    let c = put_byte(rt, out, c, hex_digit(b / 16));
-    put_byte(rt, out, c, hex_digit(b % 16))
-}
-
-// Each byte with a space before it.
-pub fn put_bytes(rt: HostRuntime, out: &mut [u8; 4096], c: Cursor, bytes: &[u8]) -> Cursor {
-    let mut c = c;
-    let mut i = 0;
-    while i < bytes.len() {
-        c = put_byte(rt, out, c, b' ');
-        c = put_pair(rt, out, c, bytes[i]);
-        i += 1;
+    // A full buffer is printed, and filled anew.
+    pub fn put_byte(&mut self, b: u8) {
+        if self.at >= self.buffer.len() {
+            print_text(self.rt, &self.buffer);
+            self.at = 0;
+        }
+        self.buffer[self.at] = b;
+        self.at += 1;
+        self.column = column_after(self.column, b);
     }
-    c
-}
 
-// How far a number lies from 0.
-fn size(n: i64) -> u64
-    ensures { result ≡ nat_abs n }
-{
-    if n < 0 {
-        return (-1 - n) as u64 + 1;
+    pub fn put_text(&mut self, text: &[u8]) {
+        for b in text {
+            self.put_byte(*b);
+        }
     }
-    n as u64
-}
 
-pub fn widened(n: i32) -> i64
-    ensures { result ≡ n }
-{
-    n as i64
-}
-
-pub fn put_integer(rt: HostRuntime, out: &mut [u8; 4096], c: Cursor, n: i64) -> Cursor {
-    if n < 0 {
-        let c = put_byte(rt, out, c, b'-');
-        return put_number(rt, out, c, size(n));
+    // Spaces up to a column; what has run on past it is parted from what follows all the same.
+    pub fn put_column(&mut self, column: usize) {
+        for _ in 0..gap(self.column, column) {
+            self.put_byte(b' ');
+        }
     }
-    put_number(rt, out, c, size(n))
-}
 
-// A number with its sign; 0 has none.
-pub fn put_signed(rt: HostRuntime, out: &mut [u8; 4096], c: Cursor, n: i64) -> Cursor {
-    if 0 < n {
-        let c = put_byte(rt, out, c, b'+');
-        return put_integer(rt, out, c, n);
+    pub fn put_number(&mut self, n: u64) {
+        let mut digits = Buffer::new();
+        self.put_text(digits.format(n).as_bytes());
     }
-    put_integer(rt, out, c, n)
-}
 
-// So many of a thing, `1 byte` and `2 bytes`.
-pub fn put_count(
-    rt: HostRuntime,
-    out: &mut [u8; 4096],
-    c: Cursor,
-    n: usize,
-    what: &[u8],
-) -> Cursor {
-    let c = put_number(rt, out, c, n as u64);
-    let c = put_byte(rt, out, c, b' ');
-    let c = put_text(rt, out, c, what);
-    if n == 1 {
-        return c;
+    // A double's bits, 16 hexadecimal digits.
+    pub fn put_bits(&mut self, bits: u64) {
+        for b in bits.to_be_bytes() {
+            self.put_pair(b);
+        }
     }
-    put_byte(rt, out, c, b's')
-}
 
-fn print_front(rt: HostRuntime, out: &[u8], n: usize) {
-    if n <= out.len() {
-        print_text(rt, &out[0..n]);
+    // A byte as two hexadecimal digits.
+    pub fn put_pair(&mut self, b: u8) {
+        self.put_byte(hex_digit(b / 16));
+        self.put_byte(hex_digit(b % 16));
     }
-}
 
-// Prints what is left in the buffer.
-pub fn finish(rt: HostRuntime, out: &[u8; 4096], c: Cursor) {
-    print_front(rt, out, c.at);
+    // Each byte with a space before it.
+    pub fn put_bytes(&mut self, bytes: &[u8]) {
+        for b in bytes {
+            self.put_byte(b' ');
+            self.put_pair(*b);
+        }
+    }
+
+    pub fn put_integer(&mut self, n: i64) {
+        if n < 0 {
+            self.put_byte(b'-');
+        }
+        self.put_number(n.unsigned_abs());
+    }
+
+    // A number with its sign; 0 has none.
+    pub fn put_signed(&mut self, n: i64) {
+        if 0 < n {
+            self.put_byte(b'+');
+        }
+        self.put_integer(n);
+    }
+
+    // So many of a thing, `1 byte` and `2 bytes`.
+    pub fn put_count(&mut self, n: usize, what: &[u8]) {
+        self.put_number(n as u64);
+        self.put_byte(b' ');
+        self.put_text(what);
+        if n != 1 {
+            self.put_byte(b's');
+        }
+    }
+
+    // Prints what is left in the buffer.
+    pub fn finish(self) {
+        print_text(self.rt, &self.buffer[..self.at]);
+    }
 }

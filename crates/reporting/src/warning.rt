@@ -3,7 +3,7 @@ ghost use Rattle.std.specs.Prelude.{◌≡◌, ◌≤◌};
 ghost use Rattle.places.specs.Places.{line_at};
 
 use crate::{print_name, print_place};
-use columns::{Cursor, put_byte, put_pair, put_text};
+use columns::Columns;
 use printing::{Stream, print_text};
 use scanner::byte_at;
 use tokens::Token;
@@ -16,54 +16,44 @@ fn lost_at(token: Token) -> usize {
     raw.end
 }
 
-fn put_quoted(rt: HostRuntime, out: &mut [u8; 4096], c: Cursor, b: u8) -> Cursor {
-    let c = put_byte(rt, out, c, b'\'');
-    let c = put_byte(rt, out, c, b);
-    put_byte(rt, out, c, b'\'')
+fn put_quoted(out: &mut Columns, b: u8) {
+    out.put_byte(b'\'');
+    out.put_byte(b);
+    out.put_byte(b'\'');
 }
 
-fn put_code(rt: HostRuntime, out: &mut [u8; 4096], c: Cursor, b: u8) -> Cursor {
-    let c = put_text(rt, out, c, b"0x");
-    put_pair(rt, out, c, b)
+fn put_code(out: &mut Columns, b: u8) {
+    out.put_text(b"0x");
+    out.put_pair(b);
 }
 
 // A control character must reach no terminal: its number stands for it.
-fn put_letter(rt: HostRuntime, out: &mut [u8; 4096], c: Cursor, b: u8) -> Cursor {
+fn put_letter(out: &mut Columns, b: u8) {
     match b {
-        32..=126 => put_quoted(rt, out, c, b),
-        _ => put_code(rt, out, c, b),
+        32..=126 => put_quoted(out, b),
+        _ => put_code(out, b),
     }
 }
 
 // What the string of an unclosed token lost. A reading has none that ends in a character over one byte. Where lines end with a carriage
 // return and a line feed, the string takes in the first of these, and no letter is lost.
-pub fn put_lost(
-    rt: HostRuntime,
-    out: &mut [u8; 4096],
-    c: Cursor,
-    text: &[u8],
-    token: Token,
-) -> Cursor {
+pub fn put_lost(out: &mut Columns, text: &[u8], token: Token) {
     let b = byte_at(text, lost_at(token));
     if b == b'\r' {
-        return put_text(
-            rt,
-            out,
-            c,
-            b"the carriage return at its end is lost, and no letter",
-        );
+        out.put_text(b"the carriage return at its end is lost, and no letter");
+        return;
     }
-    let c = put_text(rt, out, c, b"the last letter, ");
-    let c = put_letter(rt, out, c, b);
-    put_text(rt, out, c, b", is lost")
+    out.put_text(b"the last letter, ");
+    put_letter(out, b);
+    out.put_text(b", is lost");
 }
 
 // ---- a warning
 
 fn print_lost(rt: HostRuntime, text: &[u8], token: Token) {
-    let mut out = [0u8; 4096];
-    let c = put_lost(rt, &mut out, columns::start(), text, token);
-    columns::finish(rt, &out, c);
+    let mut out = Columns::new(rt);
+    put_lost(&mut out, text, token);
+    out.finish();
 }
 
 fn print_warning(rt: HostRuntime, name: &[u8], text: &[u8], token: Token, line: usize) {

@@ -2,7 +2,7 @@
 use crate::layout::{FACTS, put_head, put_name};
 use crate::operand::put_operand;
 use crate::place::{Place, next_place};
-use columns::{Cursor, put_byte, put_column, put_number, put_signed, put_text};
+use columns::Columns;
 use entries::Action;
 use pcode::StackDelta;
 
@@ -14,66 +14,52 @@ const NAME: usize = 35;
 // ---- an action
 
 // Of an action that stands in a reading, only an undetermined delta is refused.
-fn put_delta(rt: HostRuntime, out: &mut [u8; 4096], c: Cursor, d: StackDelta) -> Cursor {
-    let c = put_text(rt, out, c, b"delta ");
+fn put_delta(out: &mut Columns, d: StackDelta) {
+    out.put_text(b"delta ");
     match d {
-        StackDelta::Is(n) => put_signed(rt, out, c, columns::widened(n)),
-        StackDelta::Refused(_) => put_byte(rt, out, c, b'?'),
+        StackDelta::Is(n) => out.put_signed(i64::from(n)),
+        StackDelta::Refused(_) => out.put_byte(b'?'),
     }
 }
 
-fn put_action(
-    rt: HostRuntime,
-    out: &mut [u8; 4096],
-    c: Cursor,
-    i: usize,
-    a: Action,
-    line: usize,
-    d: StackDelta,
-) -> Cursor {
+fn put_action(out: &mut Columns, i: usize, a: Action, line: usize, d: StackDelta) {
     let name = a.name;
-    let c = put_head(rt, out, c, b"action  ", i);
-    let c = put_text(rt, out, c, b"level ");
-    let c = put_number(rt, out, c, a.level as u64);
-    let c = put_column(rt, out, c, LINE);
-    let c = put_text(rt, out, c, b"line ");
-    let c = put_number(rt, out, c, line as u64);
-    let c = put_column(rt, out, c, NAME);
-    let c = put_name(rt, out, c, name);
-    let c = put_column(rt, out, c, FACTS);
-    let c = put_delta(rt, out, c, d);
-    put_byte(rt, out, c, b'\n')
+    put_head(out, b"action  ", i);
+    out.put_text(b"level ");
+    out.put_number(a.level as u64);
+    out.put_column(LINE);
+    out.put_text(b"line ");
+    out.put_number(line as u64);
+    out.put_column(NAME);
+    put_name(out, name);
+    out.put_column(FACTS);
+    put_delta(out, d);
+    out.put_byte(b'\n');
 }
 
 // ---- its operands
 
 fn put_operands(
-    rt: HostRuntime,
-    out: &mut [u8; 4096],
-    c: Cursor,
+    out: &mut Columns,
     text: &[u8],
     tokens: &[u64],
     operands: &[u64],
     labels: &[u64],
     a: Action,
-) -> Cursor {
+) {
     let own = lookups::words_from(operands, a.first, a.count);
-    let mut c = c;
     let mut i = 0;
     while i < own.len() {
         let operand = entries::operand_of(own[i]);
         i += 1;
-        c = put_operand(rt, out, c, text, tokens, labels, a, i, operand);
+        put_operand(out, text, tokens, labels, a, i, operand);
     }
-    c
 }
 
 // ---- all of them
 
 fn put_step(
-    rt: HostRuntime,
-    out: &mut [u8; 4096],
-    c: Cursor,
+    out: &mut Columns,
     text: &[u8],
     tokens: &[u64],
     actions: &[u64],
@@ -81,25 +67,22 @@ fn put_step(
     labels: &[u64],
     i: usize,
     line: usize,
-) -> Cursor {
+) {
     let a = entries::action_in(actions, i);
     let d = lookups::delta_at(text, tokens, actions, operands, i);
-    let c = put_action(rt, out, c, i, a, line, d);
-    put_operands(rt, out, c, text, tokens, operands, labels, a)
+    put_action(out, i, a, line, d);
+    put_operands(out, text, tokens, operands, labels, a);
 }
 
 pub fn put_actions(
-    rt: HostRuntime,
-    out: &mut [u8; 4096],
-    c: Cursor,
+    out: &mut Columns,
     text: &[u8],
     tokens: &[u64],
     actions: &[u64],
     operands: &[u64],
     labels: &[u64],
     n: usize,
-) -> Cursor {
-    let mut c = c;
+) {
     let mut p = Place {
         token: 0,
         byte: 0,
@@ -108,10 +91,7 @@ pub fn put_actions(
     let mut i = 0;
     while i < n {
         p = next_place(text, tokens, p);
-        c = put_step(
-            rt, out, c, text, tokens, actions, operands, labels, i, p.line,
-        );
+        put_step(out, text, tokens, actions, operands, labels, i, p.line);
         i += 1;
     }
-    c
 }

@@ -9,6 +9,7 @@ mod place;
 mod typed;
 
 use as2_pcode::Counts;
+use columns::Columns;
 
 // For a reading that was accepted, and the tables that it filled.
 pub fn print_shown(
@@ -23,13 +24,8 @@ pub fn print_shown(
 ) {
     let tokens = lookups::words_from(tokens, 0, c.tokens);
     let labels = lookups::words_from(labels, 0, c.labels);
-    let mut out = [0u8; 4096];
-    let at = columns::start();
-    let at = level::put_levels(
-        rt, &mut out, at, text, tokens, actions, levels, labels, c.levels,
-    );
-    let at = action::put_actions(
-        rt, &mut out, at, text, tokens, actions, operands, labels, c.actions,
-    );
-    columns::finish(rt, &out, at);
+    let mut out = Columns::new(rt);
+    level::put_levels(&mut out, text, tokens, actions, levels, labels, c.levels);
+    action::put_actions(&mut out, text, tokens, actions, operands, labels, c.actions);
+    out.finish();
 }

@@ -1,9 +1,7 @@
 // An operand as it was typed, and what it became.
 use crate::layout::{FACTS, put_head};
 use crate::typed::put_typed;
-use columns::{
-    Cursor, put_bits, put_byte, put_bytes, put_column, put_count, put_integer, put_number, put_text,
-};
+use columns::Columns;
 use entries::{Action, Operand};
 use lookups::Target;
 use names::ActionName;
@@ -12,71 +10,58 @@ use tokens::{Token, raw_text};
 use values::{PushValue, TokenValue};
 
 // Its bytes in hexadecimal, so that what cannot be seen is seen.
-fn put_string(rt: HostRuntime, out: &mut [u8; 4096], c: Cursor, bytes: &[u8]) -> Cursor {
-    let c = put_text(rt, out, c, b"string of ");
-    let c = put_count(rt, out, c, bytes.len(), b"byte");
-    if bytes.len() == 0 {
-        return c;
+fn put_string(out: &mut Columns, bytes: &[u8]) {
+    out.put_text(b"string of ");
+    out.put_count(bytes.len(), b"byte");
+    if bytes.len() != 0 {
+        out.put_byte(b':');
+        out.put_bytes(bytes);
     }
-    let c = put_byte(rt, out, c, b':');
-    put_bytes(rt, out, c, bytes)
 }
 
-fn put_named(rt: HostRuntime, out: &mut [u8; 4096], c: Cursor, what: &[u8], n: u64) -> Cursor {
-    let c = put_text(rt, out, c, what);
-    put_number(rt, out, c, n)
+fn put_named(out: &mut Columns, what: &[u8], n: u64) {
+    out.put_text(what);
+    out.put_number(n);
 }
 
-fn put_whole(rt: HostRuntime, out: &mut [u8; 4096], c: Cursor, n: i32) -> Cursor {
-    let c = put_text(rt, out, c, b"integer ");
-    put_integer(rt, out, c, columns::widened(n))
+fn put_whole(out: &mut Columns, n: i32) {
+    out.put_text(b"integer ");
+    out.put_integer(i64::from(n));
 }
 
-fn put_double(rt: HostRuntime, out: &mut [u8; 4096], c: Cursor, x: f64) -> Cursor {
-    let c = put_text(rt, out, c, b"double ");
-    put_bits(rt, out, c, values::bits_of(x))
+fn put_double(out: &mut Columns, x: f64) {
+    out.put_text(b"double ");
+    out.put_bits(values::bits_of(x));
 }
 
-fn put_push_value(
-    rt: HostRuntime,
-    out: &mut [u8; 4096],
-    c: Cursor,
-    raw: &[u8],
-    v: PushValue,
-) -> Cursor {
+fn put_push_value(out: &mut Columns, raw: &[u8], v: PushValue) {
     match v {
-        PushValue::Null => put_text(rt, out, c, b"null"),
-        PushValue::Undefined => put_text(rt, out, c, b"undefined"),
-        PushValue::String(_) => put_string(rt, out, c, raw),
-        PushValue::Integer(n) => put_whole(rt, out, c, n),
-        PushValue::Float(x) => put_double(rt, out, c, x),
-        PushValue::True => put_text(rt, out, c, b"true"),
-        PushValue::False => put_text(rt, out, c, b"false"),
-        PushValue::Register(n) => put_named(rt, out, c, b"register ", n as u64),
-        PushValue::Constant(n) => put_named(rt, out, c, b"constant ", n as u64),
-        PushValue::Long(_) => put_text(rt, out, c, b"Long, kept as typed"),
+        PushValue::Null => out.put_text(b"null"),
+        PushValue::Undefined => out.put_text(b"undefined"),
+        PushValue::String(_) => put_string(out, raw),
+        PushValue::Integer(n) => put_whole(out, n),
+        PushValue::Float(x) => put_double(out, x),
+        PushValue::True => out.put_text(b"true"),
+        PushValue::False => out.put_text(b"false"),
+        PushValue::Register(n) => put_named(out, b"register ", n as u64),
+        PushValue::Constant(n) => put_named(out, b"constant ", n as u64),
+        PushValue::Long(_) => out.put_text(b"Long, kept as typed"),
     }
 }
 
 // In a reading every operand that is no label has a value.
-fn put_value(
-    rt: HostRuntime,
-    out: &mut [u8; 4096],
-    c: Cursor,
-    text: &[u8],
-    token: Token,
-) -> Cursor {
+fn put_value(out: &mut Columns, text: &[u8], token: Token) {
     let v = values::value(text, token);
     match v {
-        TokenValue::Is(p) => put_push_value(rt, out, c, raw_text(text, token), p),
-        TokenValue::Refused(_) => put_text(rt, out, c, b"no value"),
+        TokenValue::Is(p) => put_push_value(out, raw_text(text, token), p),
+        TokenValue::Refused(_) => out.put_text(b"no value"),
     }
 }
 
-fn put_target(rt: HostRuntime, out: &mut [u8; 4096], c: Cursor, t: Target) -> Cursor {
+fn put_target(out: &mut Columns, t: Target) {
     match t {
-        Target::At(position) => put_named(rt, out, c, b"label at position ", position as u64),
-        Target::Nothing => put_text(rt, out, c, b"label not in this level"),
+        Target::At(position) => put_named(out, b"label at position ", position as u64),
+        Target::Nothing => out.put_text(b"label not in this level"),
     }
 }
 
@@ -90,56 +75,45 @@ fn takes_label(a: ActionName) -> bool {
 }
 
 fn put_meaning(
-    rt: HostRuntime,
-    out: &mut [u8; 4096],
-    c: Cursor,
+    out: &mut Columns,
     text: &[u8],
     tokens: &[u64],
     labels: &[u64],
     a: Action,
     token: Token,
-) -> Cursor {
+) {
     let name = a.name;
     if !takes_label(name) {
-        return put_value(rt, out, c, text, token);
+        put_value(out, text, token);
+        return;
     }
     let t = lookups::target_of(text, tokens, labels, a.level, raw_text(text, token));
-    put_target(rt, out, c, t)
+    put_target(out, t);
 }
 
 // What a string without its closing quote lost.
-fn put_mark(
-    rt: HostRuntime,
-    out: &mut [u8; 4096],
-    c: Cursor,
-    text: &[u8],
-    token: Token,
-    unclosed: bool,
-) -> Cursor {
-    if !unclosed {
-        return c;
+fn put_mark(out: &mut Columns, text: &[u8], token: Token, unclosed: bool) {
+    if unclosed {
+        out.put_text(b", not closed: ");
+        reporting::put_lost(out, text, token);
     }
-    let c = put_text(rt, out, c, b", not closed: ");
-    reporting::put_lost(rt, out, c, text, token)
 }
 
 // The number of an operand is that within its action, from 1.
 pub fn put_operand(
-    rt: HostRuntime,
-    out: &mut [u8; 4096],
-    c: Cursor,
+    out: &mut Columns,
     text: &[u8],
     tokens: &[u64],
     labels: &[u64],
     a: Action,
     number: usize,
     operand: Operand,
-) -> Cursor {
+) {
     let token = entries::token_in(tokens, operand.token);
-    let c = put_head(rt, out, c, b"operand ", number);
-    let c = put_typed(rt, out, c, text, token);
-    let c = put_column(rt, out, c, FACTS);
-    let c = put_meaning(rt, out, c, text, tokens, labels, a, token);
-    let c = put_mark(rt, out, c, text, token, operand.unclosed);
-    put_byte(rt, out, c, b'\n')
+    put_head(out, b"operand ", number);
+    put_typed(out, text, token);
+    out.put_column(FACTS);
+    put_meaning(out, text, tokens, labels, a, token);
+    put_mark(out, text, token, operand.unclosed);
+    out.put_byte(b'\n');
 }
