@@ -9,21 +9,21 @@ ghost use Rattle.values.specs.Values as Values;
 ghost use Rattle.c_tokens.specs.Tokens.{returned, tokens_after, token_after, bounds_after, delta_after, token_with, value_with, fields_of, integer_after, value_after};
 ghost use Rattle.c_tokens.specs.Places.{name_of, word_after, place_after};
 
-use lexer::Lexing;
+use answers::Refusal;
 use pcode::StackDelta;
 use tokens::{Span, Token};
 use values::{PushValue, TokenValue};
 
-pub fn tell_tokens(answer: Lexing, out: &mut [u64; 1]) -> u64
+pub fn tell_tokens(answer: Result<usize, Refusal>, out: &mut [u64; 1]) -> u64
     ensures value { result ≡ returned (Lexes.answer answer) }
     ensures out_after { out.new ≡ tokens_after (Lexes.answer answer) out.old }
 {
     match answer {
-        Lexing::Tokens(n) => {
+        Ok(n) => {
             out[0] = n as u64;
             0
         }
-        Lexing::Refused(r) => {
+        Err(r) => {
             out[0] = answers::refusal_place(r) as u64;
             answers::refusal_number(r)
         }

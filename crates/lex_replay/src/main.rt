@@ -6,7 +6,6 @@
 
 ghost use Rattle.std.specs.Prelude.{◌<◌, ◌≤◌, length};
 
-use lexer::Lexing;
 use printing::{print_number, print_text};
 use std::io;
 
@@ -77,7 +76,7 @@ fn same_tokens(list: &[u8], table: &[u64], n: usize) -> bool {
 fn same_answer(text: &[u8], answer: u64, count: u64, list: &[u8]) -> bool {
     let mut table = [0u64; 4096];
     match lexer::lex(text, &mut table) {
-        Lexing::Tokens(n) => {
+        Ok(n) => {
             if answer != 0 {
                 return false;
             }
@@ -86,7 +85,7 @@ fn same_answer(text: &[u8], answer: u64, count: u64, list: &[u8]) -> bool {
             }
             same_tokens(list, &table, n)
         }
-        Lexing::Refused(r) => {
+        Err(r) => {
             let number = answers::refusal_number(r);
             if answer == 2 {
                 if number != 2 {

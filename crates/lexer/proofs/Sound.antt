@@ -80,14 +80,14 @@ module _ (s : List ℕ) where
       no_refusal {r} {p} q = let w : refused r p ≡ accepted ts = sym q ∙ e in let z : ◌≡◌ {A = ℕ} 0 1 = cc in omega arith
 
       begins : i < length s → (f : Found) → f ≡ first (drop i s) → Fitting (length (drop i s)) f → KeptFound f → AllWhole (length s) ts
-      begins g F.Blank q l c = rest (i + 1) ts (omega arith) (sym (blank s i g F.Blank q refl) ∙ e)
+      begins g F.Blank q l c = rest (i + 1) ts (omega arith) (sym (blank s i g q) ∙ e)
       begins g (F.Token k m) q l c =
           taken (token_in k (span i (i + m))) (lex_from (drop (i + m) s) 0 (i + m)) ts
           (whole (length s) i m k (omega (arith, l, length-drop i s)) c)
           (λ us w. rest (i + m) us (omega (arith, l)) w)
-          (sym (next s i g (F.Token k m) q k m refl l.0) ∙ e)
-      begins g F.LoneQuote q l c = absurd (no_refusal (lone s i g F.LoneQuote q refl))
-      begins g F.CutCharacter q l c = absurd (no_refusal (cut s i g F.CutCharacter q refl))
+          (sym (next s i g k m q l.0) ∙ e)
+      begins g F.LoneQuote q l c = absurd (no_refusal (lone s i g q))
+      begins g F.CutCharacter q l c = absurd (no_refusal (cut s i g q))
 
       here : (t : Bool) → ltb i (length s) ≡ t → AllWhole (length s) ts
       here true b =

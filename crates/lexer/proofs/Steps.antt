@@ -6,6 +6,7 @@ use native.Mathlib.Nat.{add-zero, add-suc, suc-add}
 use native.Mathlib.Numerals.{add-one}
 use native.Mathlib.Omega.{arith}
 use lib.ListN.{length, take, drop, set, drop_of_length-le, length-map, length-set}
+use Rattle.std.specs.Prelude.{Ok, Err}
 use lib.Seq.{drop-cons, drop-drop, take-suc-set, length-take-le}
 use Rattle.answers.specs.Answers.{Answer, accepted, refused}
 use Rattle.answers.specs.declared.Refusal.TheVariants as R
@@ -17,7 +18,6 @@ use Rattle.first_token.specs.declared.Found.{Found}
 use Rattle.first_token.specs.declared.Found.TheVariants as F
 use Rattle.lexer.specs.Lexing.{before, counted, lex_from, then}
 use Rattle.lexer.specs.Scratch.{Stored, words_of}
-use Rattle.lexer.specs.declared.Lexing.TheVariants as L
 
 -- the bytes that end a token are passed over
 lex_skip : (s : List ℕ) (k i : ℕ) → lex_from s k i ≡ lex_from (drop k s) 0 (i + k)
@@ -36,26 +36,26 @@ module _ (s : List ℕ) (i : ℕ) where
   unfolding lex_from
   lex_end h = rw (drop_of_length-le s)
 
-  module _ (h : i < length s) (f : Found) (ef : f ≡ first (drop i s)) where
-    then-here : lex_from (drop i s) 0 i ≡ then f i (λ n. lex_from (drop (i + 1) s) n (i + 1))
-    then-here = lex_here h ∙ ap (λ (q : Found). then q i (λ n. lex_from (drop (i + 1) s) n (i + 1))) (sym ef)
+  module _ (h : i < length s) where
+    then-here : {f : Found} → f ≡ first (drop i s) → lex_from (drop i s) 0 i ≡ then f i (λ n. lex_from (drop (i + 1) s) n (i + 1))
+    then-here e = lex_here h ∙ ap (λ (q : Found). then q i (λ n. lex_from (drop (i + 1) s) n (i + 1))) (sym e)
 
-    pub blank : f ≡ F.Blank → lex_from (drop i s) 0 i ≡ lex_from (drop (i + 1) s) 0 (i + 1)
-    blank e = then-here ∙ simp e
+    pub blank : F.Blank ≡ first (drop i s) → lex_from (drop i s) 0 i ≡ lex_from (drop (i + 1) s) 0 (i + 1)
+    blank e = then-here e
 
-    pub lone : f ≡ F.LoneQuote → lex_from (drop i s) 0 i ≡ refused 3 i
-    lone e = then-here ∙ simp e
+    pub lone : F.LoneQuote ≡ first (drop i s) → lex_from (drop i s) 0 i ≡ refused 3 i
+    lone e = then-here e
 
-    pub cut : f ≡ F.CutCharacter → lex_from (drop i s) 0 i ≡ refused 4 i
-    cut e = then-here ∙ simp e
+    pub cut : F.CutCharacter ≡ first (drop i s) → lex_from (drop i s) 0 i ≡ refused 4 i
+    cut e = then-here e
 
-    pub next : (k : TokenKind) (n : ℕ) → f ≡ F.Token k n → 0 < n
+    pub next : (k : TokenKind) (n : ℕ) → F.Token k n ≡ first (drop i s) → 0 < n
         → lex_from (drop i s) 0 i ≡ before (token_in k (span i (i + n))) (lex_from (drop (i + n) s) 0 (i + n))
     next k n e p =
         let g : i + 1 + (n - 1) ≡ i + n = omega arith in
         let rest : lex_from (drop (i + 1) s) (n - 1) (i + 1) ≡ lex_from (drop (i + n) s) 0 (i + n) =
         lex_skip (drop (i + 1) s) (n - 1) (i + 1) ∙ simp (drop-drop, g) in
-        then-here ∙ simp e (ap (λ (x : Answer (List Token)). before (token_in k (span i (i + n))) x) rest)
+        then-here e ∙ ap (λ (x : Answer (List Token)). before (token_in k (span i (i + n))) x) rest
 
 -- ---- the loop, with n words written that stand for the tokens l so far
 
@@ -100,7 +100,7 @@ module _ (s x₀ x : List ℕ) (i n : ℕ) (so : Passed s x₀ x i n) (room : le
   on : {y : Answer (List Token)} → lex_from (drop i s) 0 i ≡ y → lex_from s 0 0 ≡ ahead so.tokens y
   on e = so.far ∙ ap (λ (y : Answer (List Token)). ahead so.tokens y) e
 
-  pub done : length s ≤ i → Stored s x (L.Tokens n)
+  pub done : length s ≤ i → Stored s x (Ok n)
   done h =
       let far : lex_from s 0 0 ≡ accepted so.tokens = on (lex_end s i h) ∙ ap (λ (l : List Token). accepted l) (append-nil so.tokens) in
       let m : length (take n x) ≡ n = length-take-le n x (omega (arith, so.within, so.few, so.same)) in
@@ -111,18 +111,18 @@ module _ (s x₀ x : List ℕ) (i n : ℕ) (so : Passed s x₀ x i n) (room : le
         few = omega (arith, so.within, so.few);
       }
 
-  module _ (h : i < length s) (f : Found) (ef : f ≡ first (drop i s)) where
-    pub stop_lone : f ≡ F.LoneQuote → Stored s x (L.Refused (R.LoneQuote i))
+  module _ (h : i < length s) where
+    pub stop_lone : F.LoneQuote ≡ first (drop i s) → Stored s x (Err (R.LoneQuote i))
     stop_lone e =
-        let far : lex_from s 0 0 ≡ refused 3 i = on (lone s i h f ef e) in
+        let far : lex_from s 0 0 ≡ refused 3 i = on (lone s i h e) in
         record { answered = ap counted (sym far); words = ap words_of (sym far); few = omega arith }
 
-    pub stop-cut : f ≡ F.CutCharacter → Stored s x (L.Refused (R.CutCharacter i))
+    pub stop-cut : F.CutCharacter ≡ first (drop i s) → Stored s x (Err (R.CutCharacter i))
     stop-cut e =
-        let far : lex_from s 0 0 ≡ refused 4 i = on (cut s i h f ef e) in
+        let far : lex_from s 0 0 ≡ refused 4 i = on (cut s i h e) in
         record { answered = ap counted (sym far); words = ap words_of (sym far); few = omega arith }
 
-    pub pass : f ≡ F.Blank → Passed s x₀ x (i + 1) n
+    pub pass : F.Blank ≡ first (drop i s) → Passed s x₀ x (i + 1) n
     pass e =
         record {
           within = omega arith;
@@ -130,10 +130,10 @@ module _ (s x₀ x : List ℕ) (i n : ℕ) (so : Passed s x₀ x i n) (room : le
           same = so.same;
           tokens = so.tokens;
           words = so.words;
-          far = on (blank s i h f ef e);
+          far = on (blank s i h e);
         }
 
-    pub store : (k : TokenKind) (m w : ℕ) → f ≡ F.Token k m → 0 < m → m ≤ length s - i → w ≡ word_of (token_in k (span i (i + m)))
+    pub store : (k : TokenKind) (m w : ℕ) → F.Token k m ≡ first (drop i s) → 0 < m → m ≤ length s - i → w ≡ word_of (token_in k (span i (i + m)))
         → Passed s x₀ (set x n w) (i + m) (n + 1)
     store k m w e p q ew =
         let t = token_in k (span i (i + m)) in
@@ -147,5 +147,5 @@ module _ (s x₀ x : List ℕ) (i n : ℕ) (so : Passed s x₀ x i n) (room : le
               ∙ ap (λ (l : List ℕ). l ++ (w ∷ [])) so.words
               ∙ ap (λ (v : ℕ). map word_of so.tokens ++ (v ∷ [])) ew
               ∙ sym (words_more so.tokens t);
-          far = on (next s i h f ef k m e p) ∙ ahead_before so.tokens t (lex_from (drop (i + m) s) 0 (i + m));
+          far = on (next s i h k m e p) ∙ ahead_before so.tokens t (lex_from (drop (i + m) s) 0 (i + m));
         }

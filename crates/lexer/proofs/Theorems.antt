@@ -75,13 +75,13 @@ module _ (s : List ℕ) where
       begins g F.Blank q l =
           let d : get_or (drop i s) 0 0 ≡ get_or s i 0 = get_or-drop i s 0 0 ∙ ap (λ (k : ℕ). get_or s k 0) (add-zero i) in
           after-blank i ts (subst (λ (b : ℕ). (b ≡ 32) ⊎ (b ≡ 9)) d (blank-byte (drop i s) q))
-          (rest (i + 1) ts (omega arith) (sym (blank s i g F.Blank q refl) ∙ e))
+          (rest (i + 1) ts (omega arith) (sym (blank s i g q) ∙ e))
       begins g (F.Token k m) q l =
           taken i m k (lex_from (drop (i + m) s) 0 (i + m)) ts (omega (arith, l, length-drop i s)) l.0
           (λ us w. rest (i + m) us (omega (arith, l)) w)
-          (sym (next s i g (F.Token k m) q k m refl l.0) ∙ e)
-      begins g F.LoneQuote q l = absurd (no_refusal (lone s i g F.LoneQuote q refl))
-      begins g F.CutCharacter q l = absurd (no_refusal (cut s i g F.CutCharacter q refl))
+          (sym (next s i g k m q l.0) ∙ e)
+      begins g F.LoneQuote q l = absurd (no_refusal (lone s i g q))
+      begins g F.CutCharacter q l = absurd (no_refusal (cut s i g q))
 
       here : (t : Bool) → ltb i (length s) ≡ t → Spans s i ts
       here true b =

@@ -1,14 +1,13 @@
 -- All tokens of a text, and refusals 1 to 5.
-use Rattle.std.specs.Prelude.{◌≡◌, cond, List, [], ◌∷◌, ◌++◌, map, ℕ, zero, suc, ◌+◌, ◌-◌, ltb, length, drop}
+use Rattle.std.specs.Prelude.{◌≡◌, cond, List, [], ◌∷◌, ◌++◌, map, ℕ, zero, suc, ◌+◌, ◌-◌, ltb, length, drop, Result, Ok, Err}
 use Rattle.answers.specs.Answers.{Answer, accepted, refused, refusal}
+use Rattle.answers.specs.declared.Refusal.{Refusal}
 use Rattle.tokens.specs.declared.Token.{Token}
 use Rattle.tokens.specs.Tokens.{span, token_in, word_of}
 use Rattle.utf8.specs.Utf8.{valid_up_to}
 use Rattle.first_token.specs.First.{first}
 use Rattle.first_token.specs.declared.Found.{Found}
 use Rattle.first_token.specs.declared.Found.TheVariants as F
-use Rattle.lexer.specs.declared.Lexing.{Lexing}
-use Rattle.lexer.specs.declared.Lexing.TheVariants as L
 
 -- one token before the others
 abbrev pub before : Token → Answer (List Token) → Answer (List Token)
@@ -48,14 +47,14 @@ abbrev pub table_after : Answer (List Token) → List ℕ → List ℕ
 table_after (accepted l) x = map word_of l ++ drop (length l) x
 table_after (refused n p) x = x
 
-abbrev pub answer : Lexing → Answer ℕ
-answer (L.Tokens n) = accepted n
-answer (L.Refused r) = refusal r
+abbrev pub answer : Result ℕ Refusal → Answer ℕ
+answer (Ok n) = accepted n
+answer (Err r) = refusal r
 
 -- the answer r and the table y after lexing with the table x, where q is what is right
-pub record Handed (q : Answer (List Token)) (x y : List ℕ) (r : Lexing) : Type 0 where
+pub record Handed (q : Answer (List Token)) (x y : List ℕ) (r : Result ℕ Refusal) : Type 0 where
   pub answered : answer r ≡ counted q
   pub table : y ≡ table_after q x
 
-abbrev pub Lexes : List ℕ → List ℕ → List ℕ → Lexing → Type 0
+abbrev pub Lexes : List ℕ → List ℕ → List ℕ → Result ℕ Refusal → Type 0
 Lexes s x y r = Handed (lex_text s (length x)) x y r

@@ -7,12 +7,12 @@ use native.Mathlib.Omega.{arith}
 use lib.Dec.{ltb}
 use lib.ListN.{length, take, drop, length-append, length-map}
 use lib.Seq.{take-append_seam}
+use Rattle.std.specs.Prelude.{Ok, Err}
 use borrow.Author.Tests.{lt-ltb, le-ltb}
 use Rattle.answers.specs.Answers.{Answer, accepted, refused, refusal, number_of, place_of}
 use Rattle.answers.specs.declared.Refusal.{Refusal}
 use Rattle.lexer.specs.Lexing.{counted, fitting, lex_from, lex_text}
 use Rattle.lexer.specs.Scratch.{Stored, words_of}
-use Rattle.lexer.specs.declared.Lexing.TheVariants as L
 use Rattle.lexer.proofs.Sound.{AllWhole, all_whole}
 use Rattle.tokens.specs.declared.Token.{Token}
 use Rattle.tokens.specs.Tokens.{word_of}
@@ -71,10 +71,10 @@ module _ (text : List ℕ) (room : ℕ) (b : length text ≤ 65536) (u : length 
   all-tokens (refused n p) z k e f w h g = let z : ◌≡◌ {A = ℕ} 0 1 = cc in absurd (omega arith)
 
   module _ (z : List ℕ) where
-    pub row34 : (r : Refusal) → Stored text z (L.Refused r) → (places : List ℕ) → Answers room places text (refusal r)
+    pub row34 : (r : Refusal) → Stored text z (Err r) → (places : List ℕ) → Answers room places text (refusal r)
     row34 r h = refuses (lex_from text 0 0) r refl h.answered
 
-    module _ (n : ℕ) (h : Stored text z (L.Tokens n)) where
+    module _ (n : ℕ) (h : Stored text z (Ok n)) where
       pub row5 : room < n → (places : List ℕ) → Answers room places text (refused 5 n)
       row5 g = too_many (lex_from text 0 0) n refl h.answered g
 

@@ -6,7 +6,6 @@ ghost use Rattle.utf8.specs.Utf8.{valid_up_to};
 ghost use Rattle.reading.specs.Told.{Parses};
 
 use answers::Refusal;
-use lexer::Lexing;
 use operands::Step;
 
 // How many tokens and events there are, or refusals 3 to 7.
@@ -25,8 +24,8 @@ pub fn parse_text(text: &[u8], room: usize, s: &mut [u64], log: &mut [u64]) -> P
 {
     let lexing = lexer::lex_into(text, s);
     match lexing {
-        Lexing::Refused(r) => Parsing::Refused(r),
-        Lexing::Tokens(n) => {
+        Err(r) => Parsing::Refused(r),
+        Ok(n) => {
             if room < n {
                 return Parsing::Refused(Refusal::TokenTableShort(n));
             }

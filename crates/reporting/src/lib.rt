@@ -6,7 +6,6 @@ mod uncoded;
 mod warning;
 
 use answers::Refusal;
-use lexer::Lexing;
 use printing::{Stream, print_number, print_text, write_number, write_text};
 pub use warning::{print_warnings, put_lost};
 
@@ -166,8 +165,8 @@ fn print_report(
 // How many tokens a text has, once they stand in the table; none where lexing refuses it.
 fn lexed(text: &[u8], tokens: &mut [u64]) -> usize {
     match lexer::lex(text, tokens) {
-        Lexing::Tokens(n) => n,
-        Lexing::Refused(_) => 0,
+        Ok(n) => n,
+        Err(_) => 0,
     }
 }
 

@@ -4,7 +4,6 @@
 
 ghost use Rattle.std.specs.Prelude.{◌≤◌, IfOk, length};
 
-use lexer::Lexing;
 use printing::{print_bits, print_number, print_refusal, print_signed, print_span, print_text};
 use std::io;
 use std::io::Read;
@@ -102,8 +101,8 @@ fn print_tokens(rt: HostRuntime, text: &[u8], table: &[u64], n: usize) {
 fn print_all(rt: HostRuntime, text: &[u8]) {
     let mut table = [0u64; 4096];
     match lexer::lex(text, &mut table) {
-        Lexing::Tokens(n) => print_tokens(rt, text, &table, n),
-        Lexing::Refused(r) => print_refusal(rt, r),
+        Ok(n) => print_tokens(rt, text, &table, n),
+        Err(r) => print_refusal(rt, r),
     }
 }
 

@@ -1,5 +1,4 @@
 -- `lexer::lex` meets its contract: rows 1 and 2, then the others. Assumes nothing.
-use borrow.Author.Rules.{rules}
 use Rattle.lexer.proofs.Rows as laws
 use Rattle.lexer.proofs.lex.Goals as goal
 
@@ -16,18 +15,18 @@ returns-then-text-le1024 c =
     let v = c in
     let a = v.args in
     laws.rows345 a.text.now a.table.now v.if-text-gt65536.false _ v.valid_up_to-valid.ensures c.if-valid-text.false _ _
-    c.lex_1024.ensures
+    c.lex_within.ensures
 
 pub returns-then-text-le8192 : goal.returns-then-text-le8192
 returns-then-text-le8192 c =
     let v = c in
     let a = v.args in
     laws.rows345 a.text.now a.table.now v.if-text-gt65536.false _ v.valid_up_to-valid.ensures c.if-valid-text.false _ _
-    c.lex_8192.ensures
+    c.lex_within-then-text-le8192.ensures
 
 pub returns : goal.returns
 returns c =
     let v = c in
     let a = v.args in
     laws.rows345 a.text.now a.table.now v.if-text-gt65536.false _ v.valid_up_to-valid.ensures c.if-valid-text.false _ _
-    c.lex_65536.ensures
+    c.lex_within-2.ensures

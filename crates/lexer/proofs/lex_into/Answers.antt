@@ -1,5 +1,4 @@
 -- `lexer::lex_into` meets its contract: the constants are the tables of the names. Assumes nothing.
-use borrow.Author.Rules.{rules}
 use mathlib.Core.Path.{refl}
 use Rattle.words.specs.Spellings.{bytes, spellings}
 use Rattle.words.specs.Tables.{cut}

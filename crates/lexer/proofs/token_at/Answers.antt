@@ -1,5 +1,4 @@
 -- `lexer::token_at` meets its contract. Assumes nothing.
-use borrow.Author.Rules.{rules}
 use Rattle.first_token.proofs.Firsts.{at_byte, at-byte-fits}
 use Rattle.lexer.proofs.token_at.Goals as goal
 
