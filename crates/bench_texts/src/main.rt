@@ -8,7 +8,7 @@ use as2_pcode::Counts;
 use fronts::{Lent, least};
 use printing::{print_bits, print_number, print_refusal, print_signed, print_text};
 use tokens::Token;
-use values::{PushValue, TokenValue};
+use values::PushValue;
 
 // ---- the text of a line
 
@@ -121,12 +121,12 @@ fn print_held(rt: HostRuntime, raw: &[u8], v: PushValue) {
 fn print_operand(rt: HostRuntime, text: &[u8], token: Token) {
     let raw = tokens::raw_text(text, token);
     match values::value(text, token) {
-        TokenValue::Is(v) => {
+        Ok(v) => {
             print_word(rt, v);
             print_case(rt, v);
             print_held(rt, raw, v);
         }
-        TokenValue::Refused(_) => {
+        Err(_) => {
             print_text(rt, b"name ");
             print_bytes(rt, raw);
         }

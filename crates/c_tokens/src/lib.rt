@@ -12,7 +12,7 @@ ghost use Rattle.c_tokens.specs.Places.{name_of, word_after, place_after};
 use answers::Refusal;
 use pcode::StackDelta;
 use tokens::{Span, Token};
-use values::{PushValue, TokenValue};
+use values::PushValue;
 
 pub fn tell_tokens(answer: Result<usize, Refusal>, out: &mut [u64; 1]) -> u64
     ensures value { result ≡ returned (Lexes.answer answer) }
@@ -115,13 +115,13 @@ fn fields_of(v: PushValue) -> ValueFields
     }
 }
 
-pub fn tell_value(answer: TokenValue, integer: &mut [i32; 1], out: &mut [u64; 4]) -> u64
+pub fn tell_value(answer: Result<PushValue, Refusal>, integer: &mut [i32; 1], out: &mut [u64; 4]) -> u64
     ensures value { result ≡ returned (Values.answer answer) }
     ensures integer_after { integer.new ≡ integer_after (Values.answer answer) integer.old }
     ensures out_after { out.new ≡ value_after (Values.answer answer) out.old }
 {
     match answer {
-        TokenValue::Is(v) => {
+        Ok(v) => {
             let fields = fields_of(v);
             let bounds = fields.text;
             let number = fields.integer;
@@ -132,7 +132,7 @@ pub fn tell_value(answer: TokenValue, integer: &mut [i32; 1], out: &mut [u64; 4]
             out[3] = bounds.end as u64;
             0
         }
-        TokenValue::Refused(r) => answers::refusal_number(r),
+        Err(r) => answers::refusal_number(r),
     }
 }
 

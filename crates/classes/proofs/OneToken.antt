@@ -13,7 +13,7 @@ use mir.Val.{Fits, SFits, to_z, of_z}
 use mir.ValLaws.{to_z-of_z}
 use lib.ListN.{length, get_or}
 use borrow.Author.Tests.{ltb-true, ltb-false, lt-ltb, le-ltb, eq-eqb, ne_eqb}
-use Rattle.std.specs.Prelude.{Some, None}
+use Rattle.std.specs.Prelude.{Some, None, Result, Ok, Err}
 use Rattle.std.specs.Prelude as Std
 use Rattle.answers.specs.declared.Refusal.{Refusal}
 use Rattle.answers.specs.Answers.{Answer, accepted, refused}
@@ -29,8 +29,6 @@ use Rattle.numbers.specs.declared.Double.TheVariants as D
 use Rattle.numbers.specs.Integers.{is_natural, natural, integer}
 use Rattle.numbers.specs.Doubles.{double}
 use Rattle.values.specs.declared.PushValue.{PushValue}
-use Rattle.values.specs.declared.TokenValue.{TokenValue}
-use Rattle.values.specs.declared.TokenValue.TheVariants as V'
 use Rattle.values.specs.Values.{double_or_long, float_value, integer_or, integer_value, push_value, or_six, value_answer, answer, integer_text, i32_of}
 use Rattle.lexemes.specs.Operands.{is_some, is_parsed}
 use Rattle.classes.specs.declared.Class.{Class}
@@ -100,15 +98,15 @@ value-told text s at f h =
     rw (le-ltb 65536 (length text) f.bytes, f.within at h)
     (or_six_lem (push_value t.kind (part text t.raw) t.raw) ∙ some_anyway t.kind (part text t.raw) t.raw _)
 
-pub value-is : (text s : List ℕ) (at : ℕ) (t : Token) (v : PushValue) (r : TokenValue) → Sound text s → at < length s → t ≡ token_of (get_or s at 0) →
-    answer r ≡ value_answer text t → r ≡ V'.Is v → true ≡ class_at C.Value text s at
+pub value-is : (text s : List ℕ) (at : ℕ) (t : Token) (v : PushValue) (r : Result PushValue Refusal) → Sound text s → at < length s → t ≡ token_of (get_or s at 0) →
+    answer r ≡ value_answer text t → r ≡ Ok v → true ≡ class_at C.Value text s at
 value-is text s at t v r f h e a q =
-    ap (λ (x : TokenValue). is-accepted (answer x)) (sym q) ∙ ap is-accepted (a ∙ ap (value_answer text) e) ∙ value-told text s at f h
+    ap (λ (x : Result PushValue Refusal). is-accepted (answer x)) (sym q) ∙ ap is-accepted (a ∙ ap (value_answer text) e) ∙ value-told text s at f h
 
-pub value-is_not : (text s : List ℕ) (at : ℕ) (t : Token) (v : Refusal) (r : TokenValue) → Sound text s → at < length s → t ≡ token_of (get_or s at 0) →
-    answer r ≡ value_answer text t → r ≡ V'.Refused v → false ≡ class_at C.Value text s at
+pub value-is_not : (text s : List ℕ) (at : ℕ) (t : Token) (v : Refusal) (r : Result PushValue Refusal) → Sound text s → at < length s → t ≡ token_of (get_or s at 0) →
+    answer r ≡ value_answer text t → r ≡ Err v → false ≡ class_at C.Value text s at
 value-is_not text s at t v r f h e a q =
-    ap (λ (x : TokenValue). is-accepted (answer x)) (sym q) ∙ ap is-accepted (a ∙ ap (value_answer text) e) ∙ value-told text s at f h
+    ap (λ (x : Result PushValue Refusal). is-accepted (answer x)) (sym q) ∙ ap is-accepted (a ∙ ap (value_answer text) e) ∙ value-told text s at f h
 
 -- ---- whole numbers
 

@@ -6,7 +6,7 @@ ghost use Rattle.classes.specs.declared.Class.TheVariants as C;
 ghost use Rattle.classes.specs.Lexemes.{Sound, kind_at, class_at, fits_at, acting_as, count_at, is_count_at};
 
 use tokens::{kind_place, token_of};
-use values::{TokenValue, i32_of, u8_of, u16_of, value};
+use values::{i32_of, u8_of, u16_of, value};
 
 // What an operand may be.
 #[derive(Clone, Copy)]
@@ -44,10 +44,7 @@ fn value_at(text: &[u8], s: &[u64], at: usize) -> bool
     ensures { result ≡ class_at C.Value text.now s.now at }
 {
     let t = token_of(s[at]);
-    match value(text, t) {
-        TokenValue::Is(_) => true,
-        TokenValue::Refused(_) => false,
-    }
+    value(text, t).is_ok()
 }
 
 fn u8_at(text: &[u8], s: &[u64], at: usize) -> bool

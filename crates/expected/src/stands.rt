@@ -1,7 +1,6 @@
 // What stands at the place of a refusal 6, as far as a sentence tells it apart.
 use scanner::byte_at;
 use tokens::{Token, TokenKind};
-use values::TokenValue;
 use views::is_control;
 
 #[derive(Clone, Copy)]
@@ -153,7 +152,7 @@ fn runs_to_the_end(text: &[u8], at: usize) -> bool {
 
 fn number_at(text: &[u8], token: Token) -> Stands {
     let span = token.span;
-    if let TokenValue::Is(_) = values::value(text, token) {
+    if let Ok(_) = values::value(text, token) {
         return Stands::Number;
     }
     if runs_to_the_end(text, span.end) {

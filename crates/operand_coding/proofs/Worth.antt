@@ -8,7 +8,7 @@ use native.Mathlib.Omega.{arith}
 use lib.Ieee.{Float, nan, inf}
 use lib.ListN.{length, length-take, length-drop}
 use borrow.Author.Tests.{le-ltb}
-use Rattle.std.specs.Prelude.{Some, None}
+use Rattle.std.specs.Prelude.{Some, None, Result, Ok, Err}
 use lib.IntN.{ℤ}
 use Rattle.std.specs.Prelude as Std
 use Rattle.answers.specs.declared.Refusal.{Refusal}
@@ -25,8 +25,6 @@ use Rattle.numbers.specs.Integers.{integer}
 use Rattle.numbers.specs.Doubles.{double}
 use Rattle.values.specs.declared.PushValue.{PushValue}
 use Rattle.values.specs.declared.PushValue.TheVariants as P
-use Rattle.values.specs.declared.TokenValue.{TokenValue}
-use Rattle.values.specs.declared.TokenValue.TheVariants as T
 use Rattle.values.specs.Values.{double_or_long, word_value, float_value, integer_or, integer_value, push_value, or_six, value_answer, answer}
 use Rattle.words.specs.Spellings.{bytes}
 use Rattle.words.specs.Words.{same_word}
@@ -85,12 +83,12 @@ module _ (text : List ℕ) (t : Token) where
       rw (le-ltb 65536 (length text) f.bytes, f.within)
       (or_six_lem (part text t.raw) (push_value t.kind (part text t.raw) t.raw) ∙ anyway t.kind (part text t.raw) t.raw (span 0 (length (part text t.raw))))
 
-  module _ (f : Held text t) (r : TokenValue) (a : answer r ≡ value_answer text t) where
-    pub value-is : (v : PushValue) → r ≡ T.Is v → meant (some v) (raw_text text t) ≡ meaning_in text t
-    value-is v e = ap (λ (x : TokenValue). worth (raw_text text t) (answer x)) (sym e) ∙ ap (worth (raw_text text t)) a ∙ worth_told f
+  module _ (f : Held text t) (r : Result PushValue Refusal) (a : answer r ≡ value_answer text t) where
+    pub value-is : (v : PushValue) → r ≡ Ok v → meant (some v) (raw_text text t) ≡ meaning_in text t
+    value-is v e = ap (λ (x : Result PushValue Refusal). worth (raw_text text t) (answer x)) (sym e) ∙ ap (worth (raw_text text t)) a ∙ worth_told f
 
-    pub no_value : (v : Refusal) → r ≡ T.Refused v → null ≡ meaning_in text t
-    no_value v e = ap (λ (x : TokenValue). worth (raw_text text t) (answer x)) (sym e) ∙ ap (worth (raw_text text t)) a ∙ worth_told f
+    pub no_value : (v : Refusal) → r ≡ Err v → null ≡ meaning_in text t
+    no_value v e = ap (λ (x : Result PushValue Refusal). worth (raw_text text t) (answer x)) (sym e) ∙ ap (worth (raw_text text t)) a ∙ worth_told f
 
   pub raw-short : length text ≤ 65536 → length (raw_text text t) ≤ 65536
   raw-short h = simp (length-take, length-drop) (omega arith)

@@ -15,7 +15,7 @@ ghost use Rattle.operand_coding.specs.Operands.{meaning_in, Held};
 
 use field_coding::{Coded, put_8, put_16, put_32, put_byte, put_string};
 use tokens::{Token, TokenKind, raw_text};
-use values::{PushValue, TokenValue};
+use values::PushValue;
 
 // ---- numbers
 
@@ -51,8 +51,8 @@ pub fn number_of(text: &[u8], token: Token) -> u64
     ensures upper_bound { result < 4294967296 }
 {
     match values::value(text, token) {
-        TokenValue::Is(v) => number_in(v),
-        TokenValue::Refused(_) => 0,
+        Ok(v) => number_in(v),
+        Err(_) => 0,
     }
 }
 
@@ -182,8 +182,8 @@ fn put_worth(text: &[u8], token: Token, out: &mut [u8], c: Coded) -> Coded
     ensures adds { Adds 131075 c result }
 {
     match values::value(text, token) {
-        TokenValue::Is(v) => put_value(raw_text(text, token), v, out, c),
-        TokenValue::Refused(_) => put_8(out, c, 2),
+        Ok(v) => put_value(raw_text(text, token), v, out, c),
+        Err(_) => put_8(out, c, 2),
     }
 }
 

@@ -9,7 +9,7 @@ use entries::{Level, Net, Operand};
 use records::{Cursor, expect, expect_i32, expect_signed, number_from, print_count};
 use std::io;
 use tokens::Token;
-use values::{PushValue, TokenValue};
+use values::PushValue;
 
 // ---- tokens: kind, what the kind carries, span, raw bounds
 
@@ -70,8 +70,8 @@ fn expect_value(list: &[u8], c: Cursor, text: &[u8], token: Token) -> Cursor {
         return records::agreeing(c, told.next);
     }
     match values::value(text, token) {
-        TokenValue::Is(v) => expect_held(list, c, v),
-        TokenValue::Refused(_) => records::differing(c, told.next),
+        Ok(v) => expect_held(list, c, v),
+        Err(_) => records::differing(c, told.next),
     }
 }
 

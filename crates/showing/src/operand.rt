@@ -7,7 +7,7 @@ use lookups::Target;
 use names::ActionName;
 use shapes::Shape;
 use tokens::{Token, raw_text};
-use values::{PushValue, TokenValue};
+use values::PushValue;
 
 // Its bytes in hexadecimal, so that what cannot be seen is seen.
 fn put_string(out: &mut Columns, bytes: &[u8]) {
@@ -53,8 +53,8 @@ fn put_push_value(out: &mut Columns, raw: &[u8], v: PushValue) {
 fn put_value(out: &mut Columns, text: &[u8], token: Token) {
     let v = values::value(text, token);
     match v {
-        TokenValue::Is(p) => put_push_value(out, raw_text(text, token), p),
-        TokenValue::Refused(_) => out.put_text(b"no value"),
+        Ok(p) => put_push_value(out, raw_text(text, token), p),
+        Err(_) => out.put_text(b"no value"),
     }
 }
 

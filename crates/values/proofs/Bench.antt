@@ -7,21 +7,21 @@ use Prim.Native.String.{String}
 use lib.Count.{count_trailing_zeros}
 use lib.IntN.{pos, neg_ℤ}
 use lib.Ieee.{binary64, to_bits, mul, div, neg, of_int, round, size, units, odd, span, climb}
+use Rattle.std.specs.Prelude.{Some, None}
+use Rattle.std.specs.Prelude as Std
 use Rattle.scanner.specs.Bytes.{run_of}
 use Rattle.scanner.specs.Ends.{point_end, sign_end}
 use Rattle.words.specs.Spellings.{bytes}
 use Rattle.numbers.specs.Integers.{with_byte, value_from, up_to, is_natural, natural, integer}
 use Rattle.numbers.specs.Doubles.{whole_end, mantissa_end, fraction_digits, has_digit, is_exponent, is_number, scaled, double_of, double}
-use Rattle.numbers.specs.declared.Natural.TheVariants as N
-use Rattle.numbers.specs.declared.Integer.TheVariants as I
 use Rattle.numbers.specs.declared.Double.{Double}
 use Rattle.numbers.specs.declared.Double.TheVariants as D
 
 -- one more than a double's bits; 0 of Long; none where the text has no value
-abbrev bits : Double → Option ℕ
-bits (D.Is x) = some (suc (to_bits binary64 x))
-bits D.Long = some 0
-bits D.Nothing = none
+abbrev bits : Std.Option Double → Option ℕ
+bits (Some (D.Is x)) = some (suc (to_bits binary64 x))
+bits (Some D.Long) = some 0
+bits None = none
 
 pub record Case : Type 0 where
   pub text : String
@@ -87,12 +87,12 @@ bench = refl
 
 integers :
     map (λ (s : String). integer (bytes s)) ("2147483647" ∷ "2147483648" ∷ "-2147483648" ∷ "-2147483649" ∷ "-0" ∷ "00012" ∷ "-" ∷ "+5" ∷ "1.0" ∷ "" ∷ [])
-    ≡ I.Is (pos 2147483647) ∷ I.Nothing ∷ I.Is (neg_ℤ (pos 2147483648)) ∷ I.Nothing ∷ I.Is (pos 0) ∷ I.Is (pos 12) ∷ I.Nothing ∷ I.Nothing ∷ I.Nothing ∷ I.Nothing ∷ []
+    ≡ Some (pos 2147483647) ∷ None ∷ Some (neg_ℤ (pos 2147483648)) ∷ None ∷ Some (pos 0) ∷ Some (pos 12) ∷ None ∷ None ∷ None ∷ None ∷ []
 unfolding bytes with_byte value_from is_natural natural up_to integer run_of
 integers = refl
 
 u8s :
     map (λ (s : String). natural 255 (bytes s)) ("255" ∷ "256" ∷ "-0" ∷ "000255" ∷ "" ∷ "1e1" ∷ [])
-    ≡ N.Is 255 ∷ N.Nothing ∷ N.Nothing ∷ N.Is 255 ∷ N.Nothing ∷ N.Nothing ∷ []
+    ≡ Some 255 ∷ None ∷ None ∷ Some 255 ∷ None ∷ None ∷ []
 unfolding bytes with_byte value_from is_natural natural up_to run_of
 u8s = refl

@@ -10,6 +10,8 @@ use lib.ListN.{length}
 use mir.Val.{has_key}
 use types.Run.{OneOf}
 use borrow.Author.Tests.{lt-ltb, le-ltb, le-leb, lt-leb}
+use Rattle.std.specs.Prelude.{Option}
+use lib.IntN.{ℤ}
 use Rattle.answers.specs.Answers.{Answer, accepted, refused}
 use Rattle.tokens.specs.contracts.TokenKind.{the_type}
 use Rattle.tokens.specs.declared.TokenKind.{TokenKind}
@@ -23,7 +25,6 @@ use Rattle.words.specs.Spellings.{bytes}
 use Rattle.words.specs.Words.{same_word}
 use Rattle.numbers.specs.Integers.{integer}
 use Rattle.numbers.specs.Doubles.{double}
-use Rattle.numbers.specs.declared.Integer.{Integer}
 use Rattle.numbers.specs.declared.Double.{Double}
 use Rattle.values.specs.declared.PushValue.{PushValue}
 use Rattle.values.specs.declared.PushValue.TheVariants as P
@@ -44,13 +45,13 @@ module _ (s : List ℕ) (t : Bool) (et : t ≡ same_word s (bytes "infinity")) w
     other_word h = simp (← et, g, ← eu, h)
 
 module _ (s : List ℕ) (raw : Span) where
-  pub float_is : (x y : Double) → x ≡ double s → x ≡ y → or_six (double_or_long y raw) ≡ or_six (float_value s raw)
+  pub float_is : (x y : Option Double) → x ≡ double s → x ≡ y → or_six (double_or_long y raw) ≡ or_six (float_value s raw)
   unfolding float_value
-  float_is x y e f = ap (λ (d : Double). or_six (double_or_long d raw)) (sym f ∙ e)
+  float_is x y e f = ap (λ (d : Option Double). or_six (double_or_long d raw)) (sym f ∙ e)
 
-  pub integer-is : (x y : Integer) → x ≡ integer s → x ≡ y → or_six (integer_or y (float_value s raw)) ≡ or_six (integer_value s raw)
+  pub integer-is : (x y : Option ℤ) → x ≡ integer s → x ≡ y → or_six (integer_or y (float_value s raw)) ≡ or_six (integer_value s raw)
   unfolding integer_value
-  integer-is x y e f = ap (λ (i : Integer). or_six (integer_or i (float_value s raw))) (sym f ∙ e)
+  integer-is x y e f = ap (λ (i : Option ℤ). or_six (integer_or i (float_value s raw))) (sym f ∙ e)
 
 module _ (text : List ℕ) (t : Token) where
   pub too_long : 65536 < length text → refused 1 0 ≡ value_answer text t

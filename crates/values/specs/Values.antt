@@ -1,8 +1,10 @@
 -- What a token is worth: document 01, 'Values and deltas'.
-use Rattle.std.specs.Prelude.{false, cond, List, [], ℕ, ltb, Float, length}
+use Rattle.std.specs.Prelude.{false, cond, List, [], ℕ, ltb, Float, length, ℤ, Some, None, Result, Ok, Err}
 use Rattle.std.proofs.Math.Option.{Option, none, some}
 use Rattle.std.specs.Float.{nan, inf, binary64}
 use Rattle.std.specs.Float.Ieee.{to_bits}
+use Rattle.std.specs.Prelude as Std
+use Rattle.answers.specs.declared.Refusal.{Refusal}
 use Rattle.answers.specs.Answers.{Answer, accepted, refused, refusal}
 use Rattle.tokens.specs.declared.TokenKind.{TokenKind}
 use Rattle.tokens.specs.declared.TokenKind.TheVariants as K
@@ -14,15 +16,10 @@ use Rattle.words.specs.Spellings.{bytes}
 use Rattle.words.specs.Words.{same_word}
 use Rattle.numbers.specs.Integers.{natural, integer}
 use Rattle.numbers.specs.Doubles.{double}
-use Rattle.numbers.specs.declared.Natural.{Natural}
-use Rattle.numbers.specs.declared.Integer.{Integer}
-use Rattle.numbers.specs.declared.Integer.TheVariants as I
 use Rattle.numbers.specs.declared.Double.{Double}
 use Rattle.numbers.specs.declared.Double.TheVariants as D
 use Rattle.values.specs.declared.PushValue.{PushValue}
 use Rattle.values.specs.declared.PushValue.TheVariants as P
-use Rattle.values.specs.declared.TokenValue.{TokenValue}
-use Rattle.values.specs.declared.TokenValue.TheVariants as T
 
 -- ---- a pushed value, from a token's raw text s and its bounds
 
@@ -32,17 +29,17 @@ word_value s =
     cond (same_word s (bytes "infinity")) (some (P.Float (inf false)))
     (cond (same_word s (bytes "nan")) (some (P.Float nan)) none)
 
-abbrev pub double_or_long : Double → Span → Option PushValue
-double_or_long (D.Is x) raw = some (P.Float x)
-double_or_long D.Long raw = some (P.Long raw)
-double_or_long D.Nothing raw = none
+abbrev pub double_or_long : Std.Option Double → Span → Option PushValue
+double_or_long (Some (D.Is x)) raw = some (P.Float x)
+double_or_long (Some D.Long) raw = some (P.Long raw)
+double_or_long None raw = none
 
 unfoldable pub float_value : List ℕ → Span → Option PushValue
 float_value s raw = double_or_long (double s) raw
 
-abbrev pub integer_or : Integer → Option PushValue → Option PushValue
-integer_or (I.Is n) v = some (P.Integer n)
-integer_or I.Nothing v = v
+abbrev pub integer_or : Std.Option ℤ → Option PushValue → Option PushValue
+integer_or (Some n) v = some (P.Integer n)
+integer_or None v = v
 
 -- an i32 if Rust parses one, else a number as Float
 unfoldable pub integer_value : List ℕ → Span → Option PushValue
@@ -82,9 +79,9 @@ value_answer text t =
     cond (ltb 65536 (length text)) (refused 1 0)
     (cond (is_within (length text) t.raw) (or_six (push_value t.kind (part text t.raw) t.raw)) (refused 6 0))
 
-abbrev pub answer : TokenValue → Answer PushValue
-answer (T.Is v) = accepted v
-answer (T.Refused r) = refusal r
+abbrev pub answer : Result PushValue Refusal → Answer PushValue
+answer (Ok v) = accepted v
+answer (Err r) = refusal r
 
 -- a double's bits, 0x7FF8000000000000 of nan
 abbrev pub bits_of : Float → ℕ
@@ -96,11 +93,11 @@ bits_of x = to_bits binary64 x
 unfoldable pub integer_text : List ℕ → Token → List ℕ
 integer_text text t = cond (is_kind t.kind K.Integer) (raw_text text t) []
 
-abbrev pub u8_of : List ℕ → Token → Natural
+abbrev pub u8_of : List ℕ → Token → Std.Option ℕ
 u8_of text t = natural 255 (integer_text text t)
 
-abbrev pub u16_of : List ℕ → Token → Natural
+abbrev pub u16_of : List ℕ → Token → Std.Option ℕ
 u16_of text t = natural 65535 (integer_text text t)
 
-abbrev pub i32_of : List ℕ → Token → Integer
+abbrev pub i32_of : List ℕ → Token → Std.Option ℤ
 i32_of text t = integer (integer_text text t)

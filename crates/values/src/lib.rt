@@ -9,7 +9,7 @@ ghost use Rattle.numbers.specs.Integers.{natural};
 ghost use Rattle.values.specs.Values.{word_value, float_value, integer_value, push_value, or_six, value_answer, answer, bits_of, integer_text, u8_of, u16_of, i32_of};
 
 use answers::Refusal;
-use numbers::{Double, Integer, Natural};
+use numbers::Double;
 use tokens::{Span, Token, TokenKind};
 
 // The nine of the Rust's `PushValue`, and Long: a number that has no double by one rounded operation, as it was typed.
@@ -26,13 +26,6 @@ pub enum PushValue {
     Register(u8),
     Constant(u16),
     Long(Span),
-}
-
-// What `value` answers.
-#[derive(Clone, Copy)]
-pub enum TokenValue {
-    Is(PushValue),
-    Refused(Refusal),
 }
 
 fn infinity() -> f64
@@ -57,76 +50,76 @@ pub fn bits_of(x: f64) -> u64
     f64::to_bits(x)
 }
 
-fn word_value(s: &[u8]) -> TokenValue
+fn word_value(s: &[u8]) -> Result<PushValue, Refusal>
     ensures { answer result ≡ or_six (word_value s.now) }
 {
     if words::same_word(s, b"infinity") {
-        return TokenValue::Is(PushValue::Float(infinity()));
+        return Ok(PushValue::Float(infinity()));
     }
     if words::same_word(s, b"nan") {
-        return TokenValue::Is(PushValue::Float(not_a_number()));
+        return Ok(PushValue::Float(not_a_number()));
     }
-    TokenValue::Refused(Refusal::NoValue)
+    Err(Refusal::NoValue)
 }
 
-fn float_value(s: &[u8], raw: Span) -> TokenValue
+#[tactic(auto, unfolding(crate::specs::Values::float_value))]
+fn float_value(s: &[u8], raw: Span) -> Result<PushValue, Refusal>
     requires { length s.now ≤ 65536 }
     ensures { answer result ≡ or_six (float_value s.now raw) }
 {
-    match numbers::parse_double(s) {
-        Double::Is(x) => TokenValue::Is(PushValue::Float(x)),
-        Double::Long => TokenValue::Is(PushValue::Long(raw)),
-        Double::Nothing => TokenValue::Refused(Refusal::NoValue),
+    match numbers::parse_double(s).ok_or(Refusal::NoValue)? {
+        Double::Is(x) => Ok(PushValue::Float(x)),
+        Double::Long => Ok(PushValue::Long(raw)),
     }
 }
 
 // An i32, else a number as `float_value` gives it.
-fn integer_value(s: &[u8], raw: Span) -> TokenValue
+fn integer_value(s: &[u8], raw: Span) -> Result<PushValue, Refusal>
     requires { length s.now ≤ 65536 }
     ensures { answer result ≡ or_six (integer_value s.now raw) }
 {
-    if let Integer::Is(n) = numbers::parse_integer(s) {
-        return TokenValue::Is(PushValue::Integer(n));
+    if let Some(n) = numbers::parse_integer(s) {
+        return Ok(PushValue::Integer(n));
     }
     float_value(s, raw)
 }
 
 // The value of a token of that kind, raw text and bounds.
-fn kind_value(kind: TokenKind, s: &[u8], raw: Span) -> TokenValue
+fn kind_value(kind: TokenKind, s: &[u8], raw: Span) -> Result<PushValue, Refusal>
     requires { length s.now ≤ 65536 }
     ensures { answer result ≡ or_six (push_value kind s.now raw) }
 {
     match kind {
-        TokenKind::String(_) => TokenValue::Is(PushValue::String(raw)),
+        TokenKind::String(_) => Ok(PushValue::String(raw)),
         TokenKind::Float => float_value(s, raw),
         TokenKind::Integer => integer_value(s, raw),
-        TokenKind::Register(n) => TokenValue::Is(PushValue::Register(n)),
-        TokenKind::Constant(n) => TokenValue::Is(PushValue::Constant(n)),
+        TokenKind::Register(n) => Ok(PushValue::Register(n)),
+        TokenKind::Constant(n) => Ok(PushValue::Constant(n)),
         TokenKind::Identifier => word_value(s),
-        TokenKind::True => TokenValue::Is(PushValue::True),
-        TokenKind::False => TokenValue::Is(PushValue::False),
-        TokenKind::Null => TokenValue::Is(PushValue::Null),
-        TokenKind::Undefined => TokenValue::Is(PushValue::Undefined),
-        _ => TokenValue::Refused(Refusal::NoValue),
+        TokenKind::True => Ok(PushValue::True),
+        TokenKind::False => Ok(PushValue::False),
+        TokenKind::Null => Ok(PushValue::Null),
+        TokenKind::Undefined => Ok(PushValue::Undefined),
+        _ => Err(Refusal::NoValue),
     }
 }
 
 // The value of one token of a text.
-pub fn value(text: &[u8], token: Token) -> TokenValue
+pub fn value(text: &[u8], token: Token) -> Result<PushValue, Refusal>
     ensures { answer result ≡ value_answer text.now token }
 {
     if 65536 < text.len() {
-        return TokenValue::Refused(Refusal::TooLong);
+        return Err(Refusal::TooLong);
     }
     let kind = token.kind;
     let raw = token.raw;
     let start = raw.start;
     let end = raw.end;
     if end < start {
-        return TokenValue::Refused(Refusal::NoValue);
+        return Err(Refusal::NoValue);
     }
     if text.len() < end {
-        return TokenValue::Refused(Refusal::NoValue);
+        return Err(Refusal::NoValue);
     }
     kind_value(kind, &text[start..end], raw)
 }
@@ -152,7 +145,7 @@ fn integer_text(text: &[u8], token: Token) -> &[u8]
 }
 
 // The number without a sign that a token writes, if it is at most `top`.
-fn unsigned_of(top: u64, text: &[u8], token: Token) -> Natural
+fn unsigned_of(top: u64, text: &[u8], token: Token) -> Option<u64>
     requires { top ≤ 65535 }
     ensures { result ≡ natural top (integer_text text.now token) }
 {
@@ -160,21 +153,21 @@ fn unsigned_of(top: u64, text: &[u8], token: Token) -> Natural
 }
 
 // The u8 that a token writes.
-pub fn u8_of(text: &[u8], token: Token) -> Natural
+pub fn u8_of(text: &[u8], token: Token) -> Option<u64>
     ensures { result ≡ u8_of text.now token }
 {
     unsigned_of(255, text, token)
 }
 
 // The u16 that a token writes.
-pub fn u16_of(text: &[u8], token: Token) -> Natural
+pub fn u16_of(text: &[u8], token: Token) -> Option<u64>
     ensures { result ≡ u16_of text.now token }
 {
     unsigned_of(65535, text, token)
 }
 
 // The i32 that a token writes.
-pub fn i32_of(text: &[u8], token: Token) -> Integer
+pub fn i32_of(text: &[u8], token: Token) -> Option<i32>
     ensures { result ≡ i32_of text.now token }
 {
     numbers::parse_integer(integer_text(text, token))

@@ -8,7 +8,7 @@ use printing::{print_bits, print_number, print_refusal, print_signed, print_span
 use std::io;
 use std::io::Read;
 use tokens::{Span, Token, TokenKind};
-use values::{PushValue, TokenValue};
+use values::PushValue;
 
 fn print_case(rt: HostRuntime, v: PushValue) {
     match v {
@@ -37,13 +37,13 @@ fn print_held(rt: HostRuntime, v: PushValue) {
     }
 }
 
-fn print_value(rt: HostRuntime, answer: TokenValue) {
+fn print_value(rt: HostRuntime, answer: Result<PushValue, Refusal>) {
     match answer {
-        TokenValue::Is(v) => {
+        Ok(v) => {
             print_case(rt, v);
             print_held(rt, v);
         }
-        TokenValue::Refused(r) => print_refusal(rt, r),
+        Err(r) => print_refusal(rt, r),
     }
 }
 

@@ -9,12 +9,12 @@ use Rattle.values.specs.declared.PushValue.TheVariants as P
 use Rattle.values.proofs.Values as laws
 use Rattle.values.proofs.integer_value.Goals as goal
 
-pub returns-in-Is : goal.returns-in-Is
-returns-in-Is c =
-    let fits : SFits w32 c.in-Is.n = search rules in
+pub returns-in-Some : goal.returns-in-Some
+returns-in-Some c =
+    let fits : SFits w32 c.in-Some.n = search rules in
     let a = c.args in
-    ap (λ n. accepted (P.Integer n)) (to_z-of_z w32 c.in-Is.n (fits))
-    ∙ laws.integer-is a.s.now a.raw _ _ c.parse_integer.ensures c.in-Is.is
+    ap (λ n. accepted (P.Integer n)) (to_z-of_z w32 c.in-Some.n (fits))
+    ∙ laws.integer-is a.s.now a.raw _ _ c.parse_integer.ensures c.in-Some.is
 
 pub returns : goal.returns
 returns c =
