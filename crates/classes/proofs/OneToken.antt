@@ -13,7 +13,7 @@ use mir.Val.{Fits, SFits, to_z, of_z}
 use mir.ValLaws.{to_z-of_z}
 use lib.ListN.{length, get_or}
 use borrow.Author.Tests.{ltb-true, ltb-false, lt-ltb, le-ltb, eq-eqb, ne_eqb}
-use Rattle.std.specs.Prelude.{Some, None, Result, Ok, Err}
+use Rattle.std.specs.Prelude.{Some, None, Result, Ok, Err, is_ok}
 use Rattle.std.specs.Prelude as Std
 use Rattle.answers.specs.declared.Refusal.{Refusal}
 use Rattle.answers.specs.Answers.{Answer, accepted, refused}
@@ -30,10 +30,10 @@ use Rattle.numbers.specs.Integers.{is_natural, natural, integer}
 use Rattle.numbers.specs.Doubles.{double}
 use Rattle.values.specs.declared.PushValue.{PushValue}
 use Rattle.values.specs.Values.{double_or_long, float_value, integer_or, integer_value, push_value, or_six, value_answer, answer, integer_text, i32_of}
-use Rattle.lexemes.specs.Operands.{is_some, is_parsed}
+use Rattle.lexemes.specs.Operands.{is_some}
 use Rattle.classes.specs.declared.Class.{Class}
 use Rattle.classes.specs.declared.Class.TheVariants as C
-use Rattle.classes.specs.Lexemes.{Sound, kind_at, class_at, fits_at, acting_as, count_at, is_integer, is_count_at}
+use Rattle.classes.specs.Lexemes.{Sound, kind_at, class_at, fits_at, acting_as, count_at, is_count_at}
 
 -- ---- the kind's place
 
@@ -98,46 +98,17 @@ value-told text s at f h =
     rw (le-ltb 65536 (length text) f.bytes, f.within at h)
     (or_six_lem (push_value t.kind (part text t.raw) t.raw) ∙ some_anyway t.kind (part text t.raw) t.raw _)
 
-pub value-is : (text s : List ℕ) (at : ℕ) (t : Token) (v : PushValue) (r : Result PushValue Refusal) → Sound text s → at < length s → t ≡ token_of (get_or s at 0) →
-    answer r ≡ value_answer text t → r ≡ Ok v → true ≡ class_at C.Value text s at
-value-is text s at t v r f h e a q =
-    ap (λ (x : Result PushValue Refusal). is-accepted (answer x)) (sym q) ∙ ap is-accepted (a ∙ ap (value_answer text) e) ∙ value-told text s at f h
-
-pub value-is_not : (text s : List ℕ) (at : ℕ) (t : Token) (v : Refusal) (r : Result PushValue Refusal) → Sound text s → at < length s → t ≡ token_of (get_or s at 0) →
-    answer r ≡ value_answer text t → r ≡ Err v → false ≡ class_at C.Value text s at
-value-is_not text s at t v r f h e a q =
-    ap (λ (x : Result PushValue Refusal). is-accepted (answer x)) (sym q) ∙ ap is-accepted (a ∙ ap (value_answer text) e) ∙ value-told text s at f h
+accepted-ok : (r : Result PushValue Refusal) → is-accepted (answer r) ≡ is_ok r
+accepted-ok (Ok v) = refl
+accepted-ok (Err e) = refl
 
 -- ---- whole numbers
 
 -- of a token that is no Integer nothing is parsed
-parsed_told : (top : ℕ) (b : Bool) (w : List ℕ) → is_parsed (natural top (cond b w [])) ≡ (b && is_parsed (natural top w))
+parsed_told : (top : ℕ) (b : Bool) (w : List ℕ) → Std.is_some (natural top (cond b w [])) ≡ (b && Std.is_some (natural top w))
 unfolding natural is_natural run_of
 parsed_told top true w = refl
 parsed_told top false w = refl
-
--- the largest number of a width
-pub data Largest : Class → ℕ → Type 0 where
-  u8 : Largest C.U8 255
-  u16 : Largest C.U16 65535
-
-natural-told : {m : Class} {top : ℕ} → Largest m top → (text s : List ℕ) (at : ℕ)
-    → is_parsed (natural top (integer_text text (token_of (get_or s at 0)))) ≡ class_at m text s at
-unfolding class_at integer_text
-natural-told u8 text s at = let t = token_of (get_or s at 0) in parsed_told 255 (is_kind t.kind K.Integer) (raw_text text t)
-natural-told u16 text s at = let t = token_of (get_or s at 0) in parsed_told 65535 (is_kind t.kind K.Integer) (raw_text text t)
-
-module _ {m : Class} {top : ℕ} (l : Largest m top) (text s : List ℕ) (at : ℕ) (t : Token) (r v : Std.Option ℕ) where
-  parsed_at : t ≡ token_of (get_or s at 0) → r ≡ natural top (integer_text text t) → r ≡ v → is_parsed v ≡ class_at m text s at
-  parsed_at e a q = ap is_parsed (sym q ∙ a ∙ ap (λ (x : Token). natural top (integer_text text x)) e) ∙ natural-told l text s at
-
-pub natural-is : {m : Class} {top : ℕ} → Largest m top → (text s : List ℕ) (at : ℕ) (t : Token) (n : ℕ) (r : Std.Option ℕ)
-    → t ≡ token_of (get_or s at 0) → r ≡ natural top (integer_text text t) → r ≡ Some n → true ≡ class_at m text s at
-natural-is l text s at t n r e a q = parsed_at l text s at t r (Some n) e a q
-
-pub natural-is_not : {m : Class} {top : ℕ} → Largest m top → (text s : List ℕ) (at : ℕ) (t : Token) (r : Std.Option ℕ)
-    → t ≡ token_of (get_or s at 0) → r ≡ natural top (integer_text text t) → r ≡ None → false ≡ class_at m text s at
-natural-is_not l text s at t r e a q = parsed_at l text s at t r None e a q
 
 -- ---- the class at a place
 
@@ -159,39 +130,58 @@ fits-there m text s at e = by (ltb at (length s)) refl
 pub none-fits : (m : Class) (text s : List ℕ) (at : ℕ) → length s ≤ at → false ≡ fits_at m text s at
 none-fits m text s at h = sym (fits_past m text s at h)
 
--- by the kind's place alone
-module _ (m : Class) (text s : List ℕ) (at k : ℕ) (h : at < length s) (e : k ≡ kind_at s at) where
-  place_is : (code_of (token_of (get_or s at 0)).kind).place ≡ k
-  place_is = sym (kind-inside s at h) ∙ sym e
+module _ (m : Class) (text s : List ℕ) (at : ℕ) (h : at < length s) where
+  -- by the kind's place alone
+  module _ (k : ℕ) (e : k ≡ kind_at s at) where
+    place_is : (code_of (token_of (get_or s at 0)).kind).place ≡ k
+    place_is = sym (kind-inside s at h) ∙ sym e
 
-  pub string-fits : m ≡ C.String → eqb k 1 ≡ fits_at m text s at
-  unfolding class_at
-  string-fits q = rw (q, fits-inside C.String text s at h, place_is)
+    pub string-fits : m ≡ C.String → eqb k 1 ≡ fits_at m text s at
+    unfolding class_at
+    string-fits q = rw (q, fits-inside C.String text s at h, place_is)
 
-  pub identifier-fits : m ≡ C.Identifier → eqb k 7 ≡ fits_at m text s at
-  unfolding class_at
-  identifier-fits q = rw (q, fits-inside C.Identifier text s at h, place_is)
+    pub identifier-fits : m ≡ C.Identifier → eqb k 7 ≡ fits_at m text s at
+    unfolding class_at
+    identifier-fits q = rw (q, fits-inside C.Identifier text s at h, place_is)
 
-  pub bool-fits : (r : Bool) → m ≡ C.Bool → r ≡ (eqb k 12 || eqb k 13) → r ≡ fits_at m text s at
-  unfolding class_at
-  bool-fits r q p = rw (q, fits-inside C.Bool text s at h, place_is, p)
+    module _ (q : m ≡ C.Bool) where
+      pub true-fits : k ≡ 12 → eqb k 12 ≡ fits_at m text s at
+      unfolding class_at
+      true-fits p = rw (q, fits-inside C.Bool text s at h, place_is, eq-eqb k 12 p)
 
-  pub target_fits : (r : Bool) → m ≡ C.Target → r ≡ (eqb k 1 || eqb k 4) → r ≡ fits_at m text s at
-  unfolding class_at
-  target_fits r q p = rw (q, fits-inside C.Target text s at h, place_is, p)
+      pub false-fits : (k ≡ 12 → ⊥) → eqb k 13 ≡ fits_at m text s at
+      unfolding class_at
+      false-fits p = rw (q, fits-inside C.Bool text s at h, place_is, ne_eqb k 12 p)
 
-module _ (m : Class) (text s : List ℕ) (at : ℕ) (r : Bool) (h : at < length s) where
-  class_fits : (n : Class) → m ≡ n → r ≡ class_at n text s at → r ≡ fits_at m text s at
-  class_fits n q e = rw q (e ∙ sym (fits-inside n text s at h))
+    module _ (q : m ≡ C.Target) where
+      pub named-fits : k ≡ 1 → eqb k 1 ≡ fits_at m text s at
+      unfolding class_at
+      named-fits p = rw (q, fits-inside C.Target text s at h, place_is, eq-eqb k 1 p)
 
-  pub value-fits : m ≡ C.Value → r ≡ class_at C.Value text s at → r ≡ fits_at m text s at
-  value-fits q e = class_fits C.Value q e
+      pub stored-fits : (k ≡ 1 → ⊥) → eqb k 4 ≡ fits_at m text s at
+      unfolding class_at
+      stored-fits p = rw (q, fits-inside C.Target text s at h, place_is, ne_eqb k 1 p)
 
-  pub u8-fits : m ≡ C.U8 → r ≡ class_at C.U8 text s at → r ≡ fits_at m text s at
-  u8-fits q e = class_fits C.U8 q e
+  -- by what the token is worth
+  module _ (t : Token) (et : t ≡ token_of (get_or s at 0)) (b : Bool) where
+    pub value-fits : (r : Result PushValue Refusal) → Sound text s → answer r ≡ value_answer text t → b ≡ is_ok r → m ≡ C.Value → b ≡ fits_at m text s at
+    value-fits r f a q n =
+        rw (n, fits-inside C.Value text s at h)
+        (q ∙ sym (accepted-ok r) ∙ ap is-accepted (a ∙ ap (value_answer text) et) ∙ value-told text s at f h)
 
-  pub u16-fits : m ≡ C.U16 → r ≡ class_at C.U16 text s at → r ≡ fits_at m text s at
-  u16-fits q e = class_fits C.U16 q e
+    pub u8-fits : (r : Std.Option ℕ) → r ≡ natural 255 (integer_text text t) → b ≡ Std.is_some r → m ≡ C.U8 → b ≡ fits_at m text s at
+    unfolding class_at integer_text
+    u8-fits r a q n =
+        let x = token_of (get_or s at 0) in
+        rw (n, fits-inside C.U8 text s at h)
+        (q ∙ ap Std.is_some (a ∙ ap (λ (y : Token). natural 255 (integer_text text y)) et) ∙ parsed_told 255 (is_kind x.kind K.Integer) (raw_text text x))
+
+    pub u16-fits : (r : Std.Option ℕ) → r ≡ natural 65535 (integer_text text t) → b ≡ Std.is_some r → m ≡ C.U16 → b ≡ fits_at m text s at
+    unfolding class_at integer_text
+    u16-fits r a q n =
+        let x = token_of (get_or s at 0) in
+        rw (n, fits-inside C.U16 text s at h)
+        (q ∙ ap Std.is_some (a ∙ ap (λ (y : Token). natural 65535 (integer_text text y)) et) ∙ parsed_told 65535 (is_kind x.kind K.Integer) (raw_text text x))
 
 -- ---- counts
 
@@ -203,7 +193,7 @@ pub count_past : (text s : List ℕ) (at : ℕ) → length s ≤ at → 0 ≡ co
 unfolding count_at
 count_past text s at h = rw (le-ltb at (length s) h)
 
-pub is-count-inside : (text s : List ℕ) (at : ℕ) → at < length s → is_count_at text s at ≡ is_integer (i32_of text (token_of (get_or s at 0)))
+pub is-count-inside : (text s : List ℕ) (at : ℕ) → at < length s → is_count_at text s at ≡ Std.is_some (i32_of text (token_of (get_or s at 0)))
 unfolding is_count_at
 is-count-inside text s at h = rw (lt-ltb at (length s) h)
 
@@ -218,11 +208,8 @@ is-count-there text s at e = by (ltb at (length s)) refl
     by true q = ltb-true at (length s) q
     by false q = absurd (false≢true (is-count_past text s at (ltb-false at (length s) q) ∙ e))
 
-pub is-count-is : (text s : List ℕ) (at : ℕ) (t : Token) (n : ℤ) (r : Std.Option ℤ) → at < length s → t ≡ token_of (get_or s at 0) → r ≡ i32_of text t → r ≡ Some n → true ≡ is_count_at text s at
-is-count-is text s at t n r h e a q = ap is_integer (sym q ∙ a ∙ ap (i32_of text) e) ∙ sym (is-count-inside text s at h)
-
-pub is-count-is_not : (text s : List ℕ) (at : ℕ) (t : Token) (r : Std.Option ℤ) → at < length s → t ≡ token_of (get_or s at 0) → r ≡ i32_of text t → r ≡ None → false ≡ is_count_at text s at
-is-count-is_not text s at t r h e a q = ap is_integer (sym q ∙ a ∙ ap (i32_of text) e) ∙ sym (is-count-inside text s at h)
+pub is-count-is : (text s : List ℕ) (at : ℕ) (t : Token) (r : Std.Option ℤ) (b : Bool) → at < length s → t ≡ token_of (get_or s at 0) → r ≡ i32_of text t → b ≡ Std.is_some r → b ≡ is_count_at text s at
+is-count-is text s at t r b h e a q = q ∙ ap Std.is_some (a ∙ ap (i32_of text) e) ∙ sym (is-count-inside text s at h)
 
 -- an i32 as the machine holds it
 module _ (z : ℤ) (f : SFits w32 z) where
@@ -257,11 +244,3 @@ count-is text s at t z r k f h e a q g =
 
 pub count-is-none : (text s : List ℕ) (at : ℕ) (t : Token) (r : Std.Option ℤ) → at < length s → t ≡ token_of (get_or s at 0) → r ≡ i32_of text t → r ≡ None → 0 ≡ count_at text s at
 count-is-none text s at t r h e a q = ap acting_as (sym q ∙ a ∙ ap (i32_of text) e) ∙ sym (count-inside text s at h)
-
--- ---- bools and stores
-
-pub first_of : (k a b : ℕ) → k ≡ a → true ≡ (eqb k a || eqb k b)
-first_of k a b e = rw (eq-eqb k a e)
-
-pub second_of_lem : (k a b : ℕ) → (k ≡ a → ⊥) → eqb k b ≡ (eqb k a || eqb k b)
-second_of_lem k a b e = rw (ne_eqb k a e)

@@ -1,5 +1,5 @@
 -- The tokens that a table's words stand for, as the grammar sees them, and tests of the one at a place.
-use Rattle.std.specs.Prelude.{◌≡◌, Bool, true, false, cond, List, [], ◌∷◌, ℕ, suc, ◌≤◌, ◌<◌, ltb, pos, negsuc, length, get_or, Option, Some, None, ℤ}
+use Rattle.std.specs.Prelude.{◌≡◌, Bool, true, false, cond, List, [], ◌∷◌, ℕ, suc, ◌≤◌, ◌<◌, ltb, pos, negsuc, length, get_or, ℤ, Option, Some, None, is_some}
 use Rattle.tokens.specs.Kinds.{code_of}
 use Rattle.tokens.specs.Tokens.{token_of, raw_text, is_within}
 use Rattle.values.specs.Values.{i32_of}
@@ -55,10 +55,6 @@ acting_as None = 0
 unfoldable pub count_at : List ℕ → List ℕ → ℕ → ℕ
 count_at text s at = cond (ltb at (length s)) (acting_as (i32_of text (token_of (get_or s at 0)))) 0
 
-abbrev pub is_integer : Option ℤ → Bool
-is_integer (Some n) = true
-is_integer None = false
-
 -- whether the token at a place is a count
 unfoldable pub is_count_at : List ℕ → List ℕ → ℕ → Bool
-is_count_at text s at = cond (ltb at (length s)) (is_integer (i32_of text (token_of (get_or s at 0)))) false
+is_count_at text s at = cond (ltb at (length s)) (is_some (i32_of text (token_of (get_or s at 0)))) false

@@ -38,37 +38,6 @@ pub fn kind_at(s: &[u64], at: usize) -> u64
     if at < s.len() { kind_place(s[at]) } else { 99 }
 }
 
-fn value_at(text: &[u8], s: &[u64], at: usize) -> bool
-    requires sound { Sound text.now s.now }
-    requires at_in_bounds { at < length s.now }
-    ensures { result ≡ class_at C.Value text.now s.now at }
-{
-    let t = token_of(s[at]);
-    value(text, t).is_ok()
-}
-
-fn u8_at(text: &[u8], s: &[u64], at: usize) -> bool
-    requires { at < length s.now }
-    ensures { result ≡ class_at C.U8 text.now s.now at }
-{
-    let t = token_of(s[at]);
-    u8_of(text, t).is_some()
-}
-
-fn u16_at(text: &[u8], s: &[u64], at: usize) -> bool
-    requires { at < length s.now }
-    ensures { result ≡ class_at C.U16 text.now s.now at }
-{
-    let t = token_of(s[at]);
-    u16_of(text, t).is_some()
-}
-
-fn one_of(k: u64, a: u64, b: u64) -> bool
-    ensures { result ≡ (eqb k a || eqb k b) }
-{
-    if k == a { true } else { k == b }
-}
-
 // Whether the token at `at` is such an operand.
 pub fn fits_at(text: &[u8], s: &[u64], at: usize, m: Class) -> bool
     requires { Sound text.now s.now }
@@ -77,15 +46,16 @@ pub fn fits_at(text: &[u8], s: &[u64], at: usize, m: Class) -> bool
     if at >= s.len() {
         return false;
     }
+    let t = token_of(s[at]);
     let k = kind_at(s, at);
     match m {
         Class::String => k == STRING,
-        Class::Value => value_at(text, s, at),
-        Class::Bool => one_of(k, TRUE, FALSE),
-        Class::U8 => u8_at(text, s, at),
-        Class::U16 => u16_at(text, s, at),
+        Class::Value => value(text, t).is_ok(),
+        Class::Bool => k == TRUE || k == FALSE,
+        Class::U8 => u8_of(text, t).is_some(),
+        Class::U16 => u16_of(text, t).is_some(),
         Class::Identifier => k == IDENTIFIER,
-        Class::Target => one_of(k, STRING, REGISTER),
+        Class::Target => k == STRING || k == REGISTER,
     }
 }
 

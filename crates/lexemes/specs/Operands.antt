@@ -24,10 +24,6 @@ abbrev pub is_some : {A : Type 0} → Option A → Bool
 is_some none = false
 is_some (some v) = true
 
-abbrev pub is_parsed : Std.Option ℕ → Bool
-is_parsed (Some n) = true
-is_parsed None = false
-
 -- a negative count acts as 0
 abbrev pub acts_as : ℕ → Std.Option ℤ → Bool
 acts_as n (Some (pos m)) = eqb m n
@@ -45,8 +41,8 @@ is_operand value t = is_some (value_of t)
 is_operand bool (lexeme i k w) = is_kind k K.True || is_kind k K.False
 is_operand only_true (lexeme i k w) = is_kind k K.True
 is_operand only_false (lexeme i k w) = is_kind k K.False
-is_operand u8 (lexeme i k w) = is_kind k K.Integer && is_parsed (natural 255 w)
-is_operand u16 (lexeme i k w) = is_kind k K.Integer && is_parsed (natural 65535 w)
+is_operand u8 (lexeme i k w) = is_kind k K.Integer && Std.is_some (natural 255 w)
+is_operand u16 (lexeme i k w) = is_kind k K.Integer && Std.is_some (natural 65535 w)
 is_operand identifier (lexeme i k w) = is_kind k K.Identifier
 is_operand target (lexeme i k w) = is_kind k (K.String true) || is_kind k (K.Register 0)
 is_operand (count n) (lexeme i k w) = is_kind k K.Integer && acts_as n (integer w)

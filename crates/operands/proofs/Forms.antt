@@ -8,7 +8,7 @@ use lib.Dec.{eqb, ltb}
 use lib.IntN.{ℤ, pos, negsuc}
 use lib.ListN.{length, get_or, set}
 use borrow.Author.Tests.{ltb-true, ltb-false, eqb-true, eqb-false, ne_eqb}
-use Rattle.std.specs.Prelude.{Option, Some, None}
+use Rattle.std.specs.Prelude.{Option, Some, None, is_some}
 use Rattle.shapes.specs.declared.Shape.{Shape}
 use Rattle.shapes.specs.declared.Shape.TheVariants as S
 use Rattle.tokens.specs.declared.TokenKind.TheVariants as K
@@ -29,7 +29,7 @@ use Rattle.operands.specs.declared.Step.{Step}
 use Rattle.operands.specs.declared.Step.TheVariants.{To, Bad}
 use Rattle.classes.specs.declared.Class.{Class}
 use Rattle.classes.specs.declared.Class.TheVariants as C
-use Rattle.classes.specs.Lexemes.{lexeme_of, kind_at, class_of, class_at, fits_at, acting_as, count_at, is_integer, is_count_at}
+use Rattle.classes.specs.Lexemes.{lexeme_of, kind_at, class_of, class_at, fits_at, acting_as, count_at, is_count_at}
 use Rattle.events.specs.Log.{log_word}
 use Rattle.operands.specs.Log.{Log, log, passed, logged}
 use Rattle.operands.specs.Contract.{judge, outcome, Fine, Ahead, Reads, nothing, at-end as action-ends, OperandRead, CommaRead, NextRead, TwoRead, ThreeRead, repeated, RepeatRead, paired, PairRead, PairsRead, NameRead, CountRead, NamesRead, FunctionRead, FlagsRead, FlagsPairsRead, RegistersRead, Function2Read, FrameRead, ValuesRead, ListRead, left, OperandsRead}
@@ -111,22 +111,22 @@ pub name-bad : (text s a b : List ℕ) (c : At) (r : Step) → OperandRead C.Str
 name-bad text s a b c r v o = first_fails (operand string ∷ []) (mark p_comma ∷ []) text s a b c r v o
 
 -- an i32 is parsed of an Integer token alone
-on_integer : (f : Params) (t : Lexeme) (z : Option ℤ) → is_integer z ≡ true → on_count f t (acting z) ≡ go (further (behind_count f (acting_as z))) (out (given t))
+on_integer : (f : Params) (t : Lexeme) (z : Option ℤ) → is_some z ≡ true → on_count f t (acting z) ≡ go (further (behind_count f (acting_as z))) (out (given t))
 on_integer f t (Some (pos n)) h = refl
 on_integer f t (Some (negsuc n)) h = refl
 on_integer f t None h = absurd (false≢true h)
 
-no_integer : (f : Params) (t : Lexeme) (z : Option ℤ) → is_integer z ≡ false → on_count f t (acting z) ≡ stop
+no_integer : (f : Params) (t : Lexeme) (z : Option ℤ) → is_some z ≡ false → on_count f t (acting z) ≡ stop
 no_integer f t (Some n) h = absurd (false≢true (sym h))
 no_integer f t None h = refl
 
-count_goes : (f : Params) (t : Lexeme) (b : Bool) (w : List ℕ) → is_integer (integer (cond b w [])) ≡ true →
+count_goes : (f : Params) (t : Lexeme) (b : Bool) (w : List ℕ) → is_some (integer (cond b w [])) ≡ true →
     cond b (on_count f t (acting (integer w))) stop ≡ go (further (behind_count f (acting_as (integer (cond b w []))))) (out (given t))
 unfolding integer natural is_natural run_of
 count_goes f t true w h = on_integer f t (integer w) h
 count_goes f t false w h = absurd (false≢true h)
 
-count-stops : (f : Params) (t : Lexeme) (b : Bool) (w : List ℕ) → is_integer (integer (cond b w [])) ≡ false → cond b (on_count f t (acting (integer w))) stop ≡ stop
+count-stops : (f : Params) (t : Lexeme) (b : Bool) (w : List ℕ) → is_some (integer (cond b w [])) ≡ false → cond b (on_count f t (acting (integer w))) stop ≡ stop
 count-stops f t true w h = no_integer f t (integer w) h
 count-stops f t false w h = refl
 

@@ -6,10 +6,10 @@ pub returns-then-at-s : goal.returns-then-at-s
 returns-then-at-s c =
     search count_past
 
-pub returns-in-Is : goal.returns-in-Is
-returns-in-Is c =
+pub returns-in-Some : goal.returns-in-Some
+returns-in-Some c =
     search count-is
 
-pub returns-in-Nothing : goal.returns-in-Nothing
-returns-in-Nothing c =
+pub returns-in-None : goal.returns-in-None
+returns-in-None c =
     search count-is-none
