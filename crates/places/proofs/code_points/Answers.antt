@@ -1,27 +1,16 @@
--- `places::code_points` meets its contract: the count so far, and that of what is left. Assumes nothing.
-use borrow.Author.Rules.{rules}
-use mathlib.Core.Path.{◌≡◌}
-use Prim.Native.Nat.{◌+◌, ◌-◌, ◌≤◌}
-use native.Mathlib.Omega.{arith}
-use lib.ListN.{length, drop}
-use Rattle.places.specs.Places.{code_points}
+-- Each byte adds what it counts for; behind the last one nothing is left.
+use Rattle.std.proofs.Common.{arith, length, not, ◌≤◌}
 use Rattle.places.proofs.Characters as laws
 use Rattle.places.proofs.code_points.Goals as goal
 
-pub loop-i-preserved : goal.loop-i-preserved
-loop-i-preserved c =
-    let a = c.args in
-    let l = c.loop-i in
-    let more =
-    laws.one_more a.text.now l.i l.n l.invariant.1.1 c.one_if-n.result c.is_tail.result
-    c.loop-i-test.true
-    c.one_if-n.ensures.0
-    c.is_tail.ensures
-    in
-    (omega arith, (omega arith, more))
+pub loop-b-preserved : goal.loop-b-preserved
+loop-b-preserved c =
+    let l = c.loop-b in
+    let more = laws.one_more c.args.text.now l.b-index l.n l.invariant.1 c.from-n.result c.is_tail.result c.loop-b-test.true c.from-n.ensures c.is_tail.ensures in
+    (omega (arith, c.from-n.ensures, laws.one_at_most (not c.is_tail.result)), more)
 
 pub returns : goal.returns
 returns c =
-    let a = c.args in
-    let l = c.loop-i in
-    (laws.all a.text.now l.i l.n l.invariant.1.1 (omega arith), omega arith)
+    let l = c.loop-b in
+    let whole : length c.args.text.now ≤ l.b-index = omega arith in
+    (laws.all c.args.text.now l.b-index l.n l.invariant.1 whole, omega arith)

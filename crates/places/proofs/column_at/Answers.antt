@@ -1,5 +1,4 @@
 -- `places::column_at` meets its contract. Assumes nothing.
-use borrow.Author.Rules.{rules}
 use Rattle.places.proofs.Characters as laws
 use Rattle.places.proofs.column_at.Goals as goal
 
