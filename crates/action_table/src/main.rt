@@ -2,14 +2,13 @@
 #![tactic(auto)]
 
 use names::ActionName;
-use pcode::StackDelta;
 use printing::{print_number, print_signed, print_text};
 
 // A refusal shows as a number that no delta is.
 fn shown(a: ActionName, values: usize, name_is_empty: bool) -> i32 {
     match pcode::delta(a, values, name_is_empty) {
-        StackDelta::Is(d) => d,
-        StackDelta::Refused(_) => 1000000,
+        Ok(d) => d,
+        Err(_) => 1000000,
     }
 }
 

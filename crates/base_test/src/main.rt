@@ -5,7 +5,6 @@ ghost use Rattle.std.specs.Prelude.{◌≤◌};
 
 use answers::Refusal;
 use names::ActionName;
-use pcode::StackDelta;
 use printing::{print_number, print_refusal, print_signed, print_span, print_text};
 use tokens::{Span, Token, TokenKind};
 
@@ -274,8 +273,8 @@ fn print_delta(rt: HostRuntime, i: usize) {
     print_number(rt, values as u64);
     print_text(rt, b": ");
     match pcode::delta(action, values, name_is_empty) {
-        StackDelta::Is(d) => print_signed(rt, d),
-        StackDelta::Refused(r) => print_refusal(rt, r),
+        Ok(d) => print_signed(rt, d),
+        Err(r) => print_refusal(rt, r),
     }
 }
 

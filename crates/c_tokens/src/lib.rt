@@ -10,7 +10,6 @@ ghost use Rattle.c_tokens.specs.Tokens.{returned, tokens_after, token_after, bou
 ghost use Rattle.c_tokens.specs.Places.{name_of, word_after, place_after};
 
 use answers::Refusal;
-use pcode::StackDelta;
 use tokens::{Span, Token};
 use values::PushValue;
 
@@ -50,16 +49,16 @@ pub fn tell_bounds(bounds: Span, out: &mut [u64; 2])
     out[1] = bounds.end as u64;
 }
 
-pub fn tell_delta(answer: StackDelta, out: &mut [i32; 1]) -> u64
+pub fn tell_delta(answer: Result<i32, Refusal>, out: &mut [i32; 1]) -> u64
     ensures value { result ≡ returned (Deltas.answer answer) }
     ensures out_after { out.new ≡ delta_after (Deltas.answer answer) out.old }
 {
     match answer {
-        StackDelta::Is(d) => {
+        Ok(d) => {
             out[0] = d;
             0
         }
-        StackDelta::Refused(r) => answers::refusal_number(r),
+        Err(r) => answers::refusal_number(r),
     }
 }
 

@@ -6,7 +6,7 @@ use answers::Refusal;
 use as2_pcode::Counts;
 use entries::Label;
 use entry_reading::read_entries;
-use label_entries::{FoundLabel, find_label, label_at};
+use label_entries::{find_label, label_at};
 use printing::{print_number, print_refusal, print_text};
 
 fn print_field(rt: HostRuntime, n: usize) {
@@ -30,13 +30,13 @@ fn print_counts(rt: HostRuntime, c: Counts) {
     print_field(rt, c.labels);
 }
 
-fn print_found(rt: HostRuntime, found: FoundLabel) {
+fn print_found(rt: HostRuntime, found: Option<usize>) {
     match found {
-        FoundLabel::At(i) => {
+        Some(i) => {
             print_text(rt, b"; found at");
             print_field(rt, i);
         }
-        FoundLabel::Nothing => print_text(rt, b"; not found"),
+        None => print_text(rt, b"; not found"),
     }
     print_text(rt, b"\n");
 }
@@ -46,7 +46,7 @@ fn print_answer(
     reading: Result<Counts, Refusal>,
     first: Label,
     second: Label,
-    found: FoundLabel,
+    found: Option<usize>,
 ) {
     match reading {
         Ok(c) => print_counts(rt, c),

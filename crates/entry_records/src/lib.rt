@@ -3,7 +3,6 @@
 
 use answers::Refusal;
 use entries::{Action, Block, Label, Level, Operand};
-use pcode::StackDelta;
 use records::{Cursor, expect, pass, print_count};
 use tokens::TokenKind;
 
@@ -21,13 +20,13 @@ fn is_empty_at(text: &[u8], words: &[u64], operands: &[u64], first: usize) -> bo
     tokens::raw_text(text, entries::token_in(words, operand.token)).len() == 0
 }
 
-fn expect_delta(list: &[u8], c: Cursor, delta: StackDelta) -> Cursor {
+fn expect_delta(list: &[u8], c: Cursor, delta: Result<i32, Refusal>) -> Cursor {
     match delta {
-        StackDelta::Is(d) => {
+        Ok(d) => {
             let c = expect(list, c, 0);
             records::expect_i32(list, c, d)
         }
-        StackDelta::Refused(r) => expect(list, c, answers::refusal_number(r)),
+        Err(r) => expect(list, c, answers::refusal_number(r)),
     }
 }
 

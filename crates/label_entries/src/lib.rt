@@ -1,20 +1,13 @@
 // Labels in a lent slice of label entries: look-up by number and by name, and the entries made of a table's words.
 #![tactic(auto)]
 
-ghost use Rattle.std.specs.Prelude.{◌≡◌, ◌++◌, map, ◌≤◌, length, take, drop, get_or};
+ghost use Rattle.std.specs.Prelude.{◌≡◌, ◌++◌, map, ◌≤◌, length, take, drop, position, get_or};
 ghost use Rattle.entries.specs.Entries.{label_of};
-ghost use Rattle.label_entries.specs.Labels.{no_label, is_named, found_from, found_at};
+ghost use Rattle.label_entries.specs.Labels.{no_label, is_named};
 
 use entries::{Label, label_in, token_in};
 use label_names::same_bytes;
 use tokens::raw_text;
-
-// The number of a label in its slice.
-#[derive(Clone, Copy)]
-pub enum FoundLabel {
-    At(usize),
-    Nothing,
-}
 
 // Whether a label is of that level and has that name.
 fn is_named(text: &[u8], tokens: &[u64], label: Label, level: usize, name: &[u8]) -> bool
@@ -25,17 +18,6 @@ fn is_named(text: &[u8], tokens: &[u64], label: Label, level: usize, name: &[u8]
     }
     let token = token_in(tokens, label.token);
     same_bytes(raw_text(text, token), name)
-}
-
-// The answer of a search that stopped at i of n.
-fn found_at(i: usize, n: usize) -> FoundLabel
-    ensures { result ≡ found_at i n }
-{
-    if i < n {
-        FoundLabel::At(i)
-    } else {
-        FoundLabel::Nothing
-    }
 }
 
 // The label of a number; past the end that of the word 0, as in a table of words.
@@ -52,26 +34,19 @@ pub fn label_at(labels: &[Label], at: usize) -> Label
     }
 }
 
-// The first label of a level and a name.
+// The number of the first label of a level and a name.
 pub fn find_label(
     text: &[u8],
     tokens: &[u64],
     labels: &[Label],
     level: usize,
     name: &[u8],
-) -> FoundLabel
-    ensures { result ≡ found_from text.now tokens.now level name.now labels.now 0 }
+) -> Option<usize>
+    ensures { result ≡ position (is_named text.now tokens.now level name.now) labels.now }
 {
-    let n = labels.len();
-    let mut i = 0;
-    while i < n {
-        let label = label_at(labels, i);
-        if is_named(text, tokens, label, level, name) {
-            break;
-        }
-        i += 1;
-    }
-    found_at(i, n)
+    labels
+        .iter()
+        .position(|label| is_named(text, tokens, *label, level, name))
 }
 
 // The labels of the first n words, put at the start of the slice; what stands behind them stays.
@@ -79,9 +54,7 @@ pub fn put_labels(words: &[u64], n: usize, labels: &mut [Label])
     requires { (n ≤ length words.now) × (n ≤ length labels.old) }
     ensures { labels.new ≡ map label_of (take n words.now) ++ drop n labels.old }
 {
-    let mut i = 0;
-    while i < n {
+    for i in 0..n {
         labels[i] = label_in(words, i);
-        i += 1;
     }
 }

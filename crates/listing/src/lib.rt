@@ -5,7 +5,6 @@ use answers::Refusal;
 use as2_pcode::Counts;
 use entries::Label;
 use names::ActionName;
-use pcode::StackDelta;
 use printing::{print_number, print_refusal, print_signed, print_text};
 use tokens::raw_text;
 
@@ -15,10 +14,10 @@ fn print_name(rt: HostRuntime, a: ActionName) {
 }
 
 // Of an action that stands in a reading, only an undetermined delta is refused.
-fn print_delta(rt: HostRuntime, d: StackDelta) {
+fn print_delta(rt: HostRuntime, d: Result<i32, Refusal>) {
     match d {
-        StackDelta::Is(n) => print_signed(rt, n),
-        StackDelta::Refused(_) => print_text(rt, b"?"),
+        Ok(n) => print_signed(rt, n),
+        Err(_) => print_text(rt, b"?"),
     }
 }
 

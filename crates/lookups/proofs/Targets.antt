@@ -6,10 +6,10 @@ use Prim.Native.Nat.{ℕ, ◌+◌, ◌≤◌, ◌<◌}
 use native.Mathlib.Numerals.{add-one}
 use lib.ListN.{length, drop, get_or, drop_of_length-le}
 use lib.Seq.{drop-cons}
+use Rattle.std.specs.Prelude.{Some, None}
 use Rattle.entries.specs.declared.Label.{Label}
 use Rattle.entries.specs.Entries.{label_of}
 use Rattle.label_names.specs.Names.{is_named}
-use Rattle.lookups.specs.declared.Target.TheVariants.{At, Nothing}
 use Rattle.lookups.specs.Targets.{target_in}
 
 module _ (text s : List ℕ) (level : ℕ) (name ws : List ℕ) where
@@ -21,13 +21,13 @@ module _ (text s : List ℕ) (level : ℕ) (name ws : List ℕ) where
   all = refl
 
   module _ (i : ℕ) (so : Left i) where
-    pub ends : length ws ≤ i → Nothing ≡ target_in text s level name ws
+    pub ends : length ws ≤ i → None ≡ target_in text s level name ws
     unfolding target_in
     ends h = sym (so ∙ simp (drop_of_length-le ws h))
 
     module _ (h : i < length ws) where
       step : target_in text s level name ws
-          ≡ cond (is_named text s level name (get_or ws i 0)) (At (label_of (get_or ws i 0)).position) (target_in text s level name (drop (i + 1) ws))
+          ≡ cond (is_named text s level name (get_or ws i 0)) (Some (label_of (get_or ws i 0)).position) (target_in text s level name (drop (i + 1) ws))
       unfolding target_in
       step = so ∙ rw (add-one i, drop-cons ws i 0)
 
@@ -35,5 +35,5 @@ module _ (text s : List ℕ) (level : ℕ) (name ws : List ℕ) where
       goes_on t f n = step ∙ simp (← n, f)
 
       pub found : (t : Bool) (l : Label) → t ≡ true → t ≡ is_named text s level name (get_or ws i 0) → l ≡ label_of (get_or ws i 0)
-          → At l.position ≡ target_in text s level name ws
-      found t l f n e = ap (λ (q : Label). At q.position) e ∙ sym (step ∙ simp (← n, f))
+          → Some l.position ≡ target_in text s level name ws
+      found t l f n e = ap (λ (q : Label). Some q.position) e ∙ sym (step ∙ simp (← n, f))

@@ -8,7 +8,7 @@ ghost use Rattle.pcode.specs.Deltas.{answer};
 ghost use Rattle.lookups.specs.Targets.{target_in};
 ghost use Rattle.lookups.specs.Deltas.{delta_at};
 
-use pcode::StackDelta;
+use answers::Refusal;
 use tokens::Span;
 
 // The bytes of a text within bounds; none where these are out of order or past the end.
@@ -58,7 +58,7 @@ pub fn delta_at(
     actions: &[u64],
     operands: &[u64],
     i: usize,
-) -> StackDelta
+) -> Result<i32, Refusal>
     ensures { answer result ≡ delta_at text.now tokens.now actions.now operands.now i }
 {
     let a = entries::action_in(actions, i);
@@ -67,25 +67,22 @@ pub fn delta_at(
     pcode::delta(name, a.count, empty)
 }
 
-// Where a jump goes: the position of a label.
-#[derive(Clone, Copy)]
-pub enum Target {
-    At(usize),
-    Nothing,
-}
-
-// The label of that level and name. Those of other levels are no targets.
-pub fn target_of(text: &[u8], tokens: &[u64], labels: &[u64], level: usize, name: &[u8]) -> Target
+// Where a jump goes: the position of the label of that level and name. Those of other levels are no targets.
+pub fn target_of(
+    text: &[u8],
+    tokens: &[u64],
+    labels: &[u64],
+    level: usize,
+    name: &[u8],
+) -> Option<usize>
     ensures { result ≡ target_in text.now tokens.now level name.now labels.now }
 {
-    let mut i = 0;
-    while i < labels.len() {
+    for i in 0..labels.len() {
         let word = labels[i];
         if label_names::is_named(text, tokens, level, name, word) {
             let label = entries::label_of(word);
-            return Target::At(label.position);
+            return Some(label.position);
         }
-        i += 1;
     }
-    Target::Nothing
+    None
 }

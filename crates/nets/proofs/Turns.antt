@@ -9,6 +9,7 @@ use lib.Dec.{eqb}
 use lib.IntN.{ℤ, ◌+ℤ◌}
 use lib.ListN.{length, get_or}
 use borrow.Author.Tests.{lt-ltb, le-ltb, ne_eqb}
+use Rattle.std.specs.Prelude.{Result, Ok, Err}
 use Rattle.names.specs.declared.ActionName.{ActionName}
 use Rattle.answers.specs.declared.Refusal.{Refusal}
 use Rattle.tokens.specs.declared.Token.{Token}
@@ -18,8 +19,6 @@ use Rattle.entries.specs.declared.Net.{Net}
 use Rattle.entries.specs.declared.Net.TheVariants as N
 use Rattle.entries.specs.Entries.{operand_of}
 use Rattle.entries.specs.Levels.{SmallNet, NetFits}
-use Rattle.pcode.specs.declared.StackDelta.{StackDelta}
-use Rattle.pcode.specs.declared.StackDelta.TheVariants as D
 use Rattle.pcode.specs.Deltas.{answer, delta_answer, delta_of, or_nine}
 use Rattle.nets.specs.Nets.{first_is_empty, is_empty, moved_by}
 use Rattle.nets.proofs.Bounds.{delta_near, moved-fits}
@@ -45,17 +44,17 @@ module _ (text s operands : List ℕ) (from to : ℕ) where
 -- ---- `next_net`
 
 -- an answer to the delta call tells its delta
-abbrev pub told : StackDelta → Option ℤ
-told (D.Is z) = some z
-told (D.Refused r) = none
+abbrev pub told : Result ℤ Refusal → Option ℤ
+told (Ok z) = some z
+told (Err r) = none
 
-told_is : (d : StackDelta) (o : Option ℤ) → answer d ≡ or_nine o → told d ≡ o
-told_is (D.Is z) none e = let q : ◌≡◌ {A = ℕ} 0 1 = cc in absurd (omega arith)
-told_is (D.Is z) (some y) e = let q : z ≡ y = cc in ap some q
-told_is (D.Refused r) none e = refl
-told_is (D.Refused r) (some y) e = let q : ◌≡◌ {A = ℕ} 0 1 = cc in absurd (omega arith)
+told_is : (d : Result ℤ Refusal) (o : Option ℤ) → answer d ≡ or_nine o → told d ≡ o
+told_is (Ok z) none e = let q : ◌≡◌ {A = ℕ} 0 1 = cc in absurd (omega arith)
+told_is (Ok z) (some y) e = let q : z ≡ y = cc in ap some q
+told_is (Err r) none e = refl
+told_is (Err r) (some y) e = let q : ◌≡◌ {A = ℕ} 0 1 = cc in absurd (omega arith)
 
-told-delta : (d : StackDelta) (a : ActionName) (v : ℕ) (empty : Bool) → v ≤ 65536 → answer d ≡ delta_answer a v empty → told d ≡ delta_of a v empty
+told-delta : (d : Result ℤ Refusal) (a : ActionName) (v : ℕ) (empty : Bool) → v ≤ 65536 → answer d ≡ delta_answer a v empty → told d ≡ delta_of a v empty
 unfolding delta_answer
 told-delta d a v empty h e = told_is d (delta_of a v empty) (simp (le-ltb 65536 v h) at e)
 
@@ -69,13 +68,13 @@ module _ (a v : ℕ) (name : ActionName) (empty : Bool) (net : Net) (s : SmallNe
   pub stays : (b : ℕ) → net ≡ N.Undetermined b → (net ≡ moved_by o a net) × NetFits net
   stays b e = moves net (e ∙ sym (ap (moved_by o a) e))
 
-  module _ (h : ℤ) (e : net ≡ N.Height h) (d : StackDelta) (k : answer d ≡ delta_answer name v empty) where
-    pub at-height : (z r : ℤ) → d ≡ D.Is z → r ≡ h +ℤ z → (N.Height r ≡ moved_by o a net) × NetFits (N.Height r)
+  module _ (h : ℤ) (e : net ≡ N.Height h) (d : Result ℤ Refusal) (k : answer d ≡ delta_answer name v empty) where
+    pub at-height : (z r : ℤ) → d ≡ Ok z → r ≡ h +ℤ z → (N.Height r ≡ moved_by o a net) × NetFits (N.Height r)
     at-height z r f g =
         let t : some z ≡ o = sym (ap told f) ∙ told-delta d name v empty lv k in
         moves (N.Height r) (ap N.Height g ∙ ap (λ (q : Option ℤ). moved_by q a (N.Height h)) t ∙ sym (ap (moved_by o a) e))
 
-    pub at-undetermined : (q : Refusal) → d ≡ D.Refused q → (N.Undetermined a ≡ moved_by o a net) × NetFits (N.Undetermined a)
+    pub at-undetermined : (q : Refusal) → d ≡ Err q → (N.Undetermined a ≡ moved_by o a net) × NetFits (N.Undetermined a)
     at-undetermined q f =
         let t : none ≡ o = sym (ap told f) ∙ told-delta d name v empty lv k in
         moves (N.Undetermined a) (ap (λ (p : Option ℤ). moved_by p a (N.Height h)) t ∙ sym (ap (moved_by o a) e))

@@ -9,7 +9,7 @@ ghost use Rattle.pcode.specs.Deltas.{delta_of};
 
 use entries::{Net, operand_in, token_in};
 use names::ActionName;
-use pcode::{StackDelta, delta};
+use pcode::delta;
 use tokens::raw_text;
 
 // Whether there is a first operand and its raw text is empty.
@@ -44,8 +44,8 @@ pub fn next_net(net: Net, a: usize, name: ActionName, values: usize, empty: bool
         Net::Height(h) => {
             let d = delta(name, values, empty);
             match d {
-                StackDelta::Is(by) => Net::Height(raised(h, by)),
-                StackDelta::Refused(_) => Net::Undetermined(a),
+                Ok(by) => Net::Height(raised(h, by)),
+                Err(_) => Net::Undetermined(a),
             }
         }
     }

@@ -1,14 +1,15 @@
 -- The table of deltas lists the rule, action by action; the delta in each arm of `delta`. Assumes nothing.
 use mathlib.Core.Path.{◌≡◌, refl, ap, sym, ◌∙◌}
-use mathlib.Core.Bool.{Bool, false, cond}
+use mathlib.Core.Bool.{Bool, true, false, cond}
 use mathlib.Core.List.{List, ◌∷◌, ◌++◌, map}
+use mathlib.Core.Logic.{◌⊎◌, inl, inr}
 use mathlib.Core.Option.{Option, none, some}
 use Prim.Native.Nat.{ℕ, ◌<◌, ◌≤◌}
 use native.Mathlib.Omega.{arith}
 use lib.IntN.{ℤ, pos}
 use lib.ListN.{get_or}
 use mir.Syntax.{w32}
-use mir.Val.{to_z, of_z}
+use mir.Val.{to_z, of_z, bool_byte}
 use mir.ValLaws.{to_z_pos}
 use types.Run.{OneOf}
 use borrow.Author.Tests.{lt-ltb, le-ltb}
@@ -54,9 +55,19 @@ module _ (a : ActionName) (values : ℕ) (empty : Bool) where
     unfolding delta_of number_of
     at_push e = ap accepted (to_z_pos w32 values (omega arith)) ∙ answered (sym (ap (λ (x : ActionName). delta_of x values empty) e))
 
-    pub at-function : OneOf (map number_of functions) (number_of a) → accepted (cond empty (pos 1) (pos 0)) ≡ delta_answer a values empty
+    -- the flag as a number: 1 where the function has no name
+    flag : (b : Bool) → kept (pos (bool_byte b)) ≡ cond b (pos 1) (pos 0)
+    flag true = refl
+    flag false = refl
+
+    function-told : (b : ActionName) → a ≡ b → some (cond empty (pos 1) (pos 0)) ≡ delta_of b values empty → some (cond empty (pos 1) (pos 0)) ≡ delta_of a values empty
+    function-told b e h = h ∙ sym (ap (λ (x : ActionName). delta_of x values empty) e)
+
+    pub at-function : (r : ℤ) → r ≡ pos (bool_byte empty) → (a ≡ A.DefineFunction) ⊎ (a ≡ A.DefineFunction2)
+        → accepted (kept r) ≡ delta_answer a values empty
     unfolding delta_of number_of
-    at-function k = answered (arm (λ x. delta_of x values empty) (some (cond empty (pos 1) (pos 0))) a functions refl k)
+    at-function r e (inl k) = ap accepted (ap kept e ∙ flag empty) ∙ answered (function-told A.DefineFunction k refl)
+    at-function r e (inr k) = ap accepted (ap kept e ∙ flag empty) ∙ answered (function-told A.DefineFunction2 k refl)
 
     pub at-undetermined : OneOf (map number_of undetermined) (number_of a) → refused 9 0 ≡ delta_answer a values empty
     unfolding delta_of number_of

@@ -1,12 +1,11 @@
 -- The stack delta of one action: document 01, 'Values and deltas', in its order.
-use Rattle.std.specs.Prelude.{Bool, cond, List, [], ◌∷◌, ℕ, ltb, ℤ, pos, neg_ℤ}
+use Rattle.std.specs.Prelude.{Bool, cond, List, [], ◌∷◌, ℕ, ltb, ℤ, pos, neg_ℤ, Result, Ok, Err}
 use Rattle.std.proofs.Math.Option.{Option, none, some}
 use Rattle.names.specs.declared.ActionName.{ActionName}
 use Rattle.names.specs.declared.ActionName.TheVariants as A
 use Rattle.actions.specs.Numbers.{is_action, one_of}
+use Rattle.answers.specs.declared.Refusal.{Refusal}
 use Rattle.answers.specs.Answers.{Answer, accepted, refused, refusal}
-use Rattle.pcode.specs.declared.StackDelta.{StackDelta}
-use Rattle.pcode.specs.declared.StackDelta.TheVariants as D
 
 abbrev pub plus_one : List ActionName
 plus_one =
@@ -57,6 +56,6 @@ or_nine (some d) = accepted d
 unfoldable pub delta_answer : ActionName → ℕ → Bool → Answer ℤ
 delta_answer a values name_is_empty = cond (ltb 65536 values) (refused 1 0) (or_nine (delta_of a values name_is_empty))
 
-abbrev pub answer : StackDelta → Answer ℤ
-answer (D.Is d) = accepted d
-answer (D.Refused r) = refusal r
+abbrev pub answer : Result ℤ Refusal → Answer ℤ
+answer (Ok d) = accepted d
+answer (Err r) = refusal r

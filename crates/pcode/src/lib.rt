@@ -119,35 +119,23 @@ fn fixed_delta(name: ActionName) -> i32
     DELTAS[n]
 }
 
-// What `delta` answers: the values pushed less those popped, or a refusal.
-#[derive(Clone, Copy)]
-pub enum StackDelta {
-    Is(i32),
-    Refused(Refusal),
-}
-
-// `stack_delta` of an action with that many values (Push) and that name (DefineFunction, DefineFunction2).
-pub fn delta(name: ActionName, values: usize, name_is_empty: bool) -> StackDelta
+// The values pushed less those popped: `stack_delta` of an action with that many values (Push) and that name (DefineFunction, DefineFunction2).
+pub fn delta(name: ActionName, values: usize, name_is_empty: bool) -> Result<i32, Refusal>
     ensures { answer result ≡ delta_answer name values name_is_empty }
 {
     if 65536 < values {
-        return StackDelta::Refused(Refusal::TooLong);
+        return Err(Refusal::TooLong);
     }
     match name {
-        ActionName::Push => StackDelta::Is(values as i32),
-        ActionName::DefineFunction | ActionName::DefineFunction2 => {
-            if name_is_empty {
-                return StackDelta::Is(1);
-            }
-            StackDelta::Is(0)
-        }
+        ActionName::Push => Ok(values as i32),
+        ActionName::DefineFunction | ActionName::DefineFunction2 => Ok(i32::from(name_is_empty)),
         ActionName::CallFunction
         | ActionName::CallMethod
         | ActionName::ImplementsOp
         | ActionName::InitArray
         | ActionName::InitObject
         | ActionName::NewMethod
-        | ActionName::StartDrag => StackDelta::Refused(Refusal::Undetermined),
-        _ => StackDelta::Is(fixed_delta(name)),
+        | ActionName::StartDrag => Err(Refusal::Undetermined),
+        _ => Ok(fixed_delta(name)),
     }
 }

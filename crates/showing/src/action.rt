@@ -2,9 +2,9 @@
 use crate::layout::{FACTS, put_head, put_name};
 use crate::operand::put_operand;
 use crate::place::{Place, next_place};
+use answers::Refusal;
 use columns::Columns;
 use entries::Action;
-use pcode::StackDelta;
 
 // Where an action's line and its name start.
 const LINE: usize = 24;
@@ -14,15 +14,15 @@ const NAME: usize = 35;
 // ---- an action
 
 // Of an action that stands in a reading, only an undetermined delta is refused.
-fn put_delta(out: &mut Columns, d: StackDelta) {
+fn put_delta(out: &mut Columns, d: Result<i32, Refusal>) {
     out.put_text(b"delta ");
     match d {
-        StackDelta::Is(n) => out.put_signed(i64::from(n)),
-        StackDelta::Refused(_) => out.put_byte(b'?'),
+        Ok(n) => out.put_signed(i64::from(n)),
+        Err(_) => out.put_byte(b'?'),
     }
 }
 
-fn put_action(out: &mut Columns, i: usize, a: Action, line: usize, d: StackDelta) {
+fn put_action(out: &mut Columns, i: usize, a: Action, line: usize, d: Result<i32, Refusal>) {
     let name = a.name;
     put_head(out, b"action  ", i);
     out.put_text(b"level ");

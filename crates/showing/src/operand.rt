@@ -3,7 +3,6 @@ use crate::layout::{FACTS, put_head};
 use crate::typed::put_typed;
 use columns::Columns;
 use entries::{Action, Operand};
-use lookups::Target;
 use names::ActionName;
 use shapes::Shape;
 use tokens::{Token, raw_text};
@@ -58,10 +57,10 @@ fn put_value(out: &mut Columns, text: &[u8], token: Token) {
     }
 }
 
-fn put_target(out: &mut Columns, t: Target) {
+fn put_target(out: &mut Columns, t: Option<usize>) {
     match t {
-        Target::At(position) => put_named(out, b"label at position ", position as u64),
-        Target::Nothing => out.put_text(b"label not in this level"),
+        Some(position) => put_named(out, b"label at position ", position as u64),
+        None => out.put_text(b"label not in this level"),
     }
 }
 

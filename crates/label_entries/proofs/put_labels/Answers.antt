@@ -9,9 +9,7 @@ use Rattle.label_entries.proofs.put_labels.Goals as goal
 pub loop-i-preserved : goal.loop-i-preserved
 loop-i-preserved c =
     let a = c.args in
-    let l = c.loop-i in (
-      (λ j. set (l.invariant.0 j) l.i (c.label_in.ensures j))
-          ∙ made_more a.words.now a.labels.now l.i (omega arith) (omega arith)
-          ∙ ap (made a.words.now a.labels.now) (sym (add-one l.i)),
-      omega arith,
-    )
+    let l = c.loop-i in
+    (λ j. set (l.invariant j) l.i (c.label_in.ensures j))
+    ∙ made_more a.words.now a.labels.now l.i (omega arith) (omega arith)
+    ∙ ap (made a.words.now a.labels.now) (sym (add-one l.i))

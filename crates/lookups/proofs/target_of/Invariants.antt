@@ -1,11 +1,6 @@
 -- `lookups::target_of` meets its contract. The invariant: what is left to search decides. Assumes nothing.
 use Rattle.lookups.proofs.Targets as laws
-use Prim.Native.Nat.{◌-◌}
-use lib.ListN.{length}
 use Rattle.lookups.proofs.target_of.Given as goal
 
 abbrev pub invariant-loop-i : goal.invariant-loop-i
 invariant-loop-i l = laws.Left l.text l.tokens l.level l.name l.labels l.i
-
-abbrev pub decreases-loop-i : goal.decreases-loop-i
-decreases-loop-i l = length l.labels - l.i

@@ -6,12 +6,12 @@ use Rattle.operand_coding.proofs.Worth.{value-is, no_value, number_anyway}
 use native.Mathlib.Omega.{arith}
 use Rattle.operand_coding.proofs.number_of.Goals as goal
 
-pub returns-in-Is : goal.returns-in-Is
-returns-in-Is c =
+pub returns-in-Ok : goal.returns-in-Ok
+returns-in-Ok c =
     let a = c.args in
-    record { value = c.number_in.ensures.value ∙ number_anyway c.in-Is.v (raw_text a.text.now a.token) ∙ ap number_in (value-is a.text.now a.token c.requires _ c.value.ensures _ c.in-Is.is); upper_bound = c.number_in.ensures.upper_bound }
+    record { value = c.number_in.ensures.value ∙ number_anyway c.in-Ok.v (raw_text a.text.now a.token) ∙ ap number_in (value-is a.text.now a.token c.requires _ c.value.ensures _ c.in-Ok.is); upper_bound = c.number_in.ensures.upper_bound }
 
-pub returns-in-Refused : goal.returns-in-Refused
-returns-in-Refused c =
+pub returns-in-Err : goal.returns-in-Err
+returns-in-Err c =
     let a = c.args in
-    record { value = ap number_in (no_value a.text.now a.token c.requires _ c.value.ensures _ c.in-Refused.is); upper_bound = omega arith }
+    record { value = ap number_in (no_value a.text.now a.token c.requires _ c.value.ensures _ c.in-Err.is); upper_bound = omega arith }

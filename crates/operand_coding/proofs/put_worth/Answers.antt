@@ -16,12 +16,12 @@ put_value-requires c =
     let p = c.requires in
     record { w_len_bound = subst (λ l. length l ≤ 65536) (sym c.raw_text.ensures.result_value) (raw-short a.text.now a.token p.held.bytes); room = p.room }
 
-pub returns-in-Is : goal.returns-in-Is
-returns-in-Is c =
+pub returns-in-Ok : goal.returns-in-Ok
+returns-in-Ok c =
     let a = c.args in
-    record { codes = coded (ap (λ w. pushed_as (meant (some c.in-Is.v) w)) c.raw_text.ensures.result_value ∙ ap pushed_as (value-is a.text.now a.token c.requires.held _ c.value.ensures _ c.in-Is.is)) c.put_value.ensures.codes; adds = c.put_value.ensures.adds }
+    record { codes = coded (ap (λ w. pushed_as (meant (some c.in-Ok.v) w)) c.raw_text.ensures.result_value ∙ ap pushed_as (value-is a.text.now a.token c.requires.held _ c.value.ensures _ c.in-Ok.is)) c.put_value.ensures.codes; adds = c.put_value.ensures.adds }
 
-pub returns-in-Refused : goal.returns-in-Refused
-returns-in-Refused c =
+pub returns-in-Err : goal.returns-in-Err
+returns-in-Err c =
     let a = c.args in
-    record { codes = coded (ap pushed_as (no_value a.text.now a.token c.requires.held _ c.value.ensures _ c.in-Refused.is)) c.put_8.ensures; adds = omega (arith, c.put_8.ensures.puts.end) }
+    record { codes = coded (ap pushed_as (no_value a.text.now a.token c.requires.held _ c.value.ensures _ c.in-Err.is)) c.put_8.ensures; adds = omega (arith, c.put_8.ensures.puts.end) }

@@ -15,28 +15,15 @@ use Rattle.pcode.proofs.delta.Goals as goal
 pub returns-then-values-gt65536 : goal.returns-then-values-gt65536
 returns-then-values-gt65536 c = let a = c.args in laws.too_long a.name a.values a.name_is_empty c.if-values-gt65536.true
 
-pub returns-then-name_is_empty : goal.returns-then-name_is_empty
-unfolding number_of
-returns-then-name_is_empty c =
-    let function : (t : Bool) → c.args.name_is_empty ≡ t
-    → accepted (cond t (pos 1) (pos 0)) ≡ delta_answer c.args.name c.args.values c.args.name_is_empty = λ t e. let a = c.args in
-    ap (λ (x : Bool). accepted (cond x (pos 1) (pos 0))) (sym e)
-    ∙ laws.at-function a.name a.values a.name_is_empty c.if-values-gt65536.false c.in-DefineFunction.in-DefineFunction-own.keys2 in
-    function true c.if-name_is_empty.true
-
 pub returns-in-Push : goal.returns-in-Push
 returns-in-Push c =
     let a = c.args in
     laws.at_push a.name a.values a.name_is_empty c.if-values-gt65536.false c.in-Push.is
 
-pub returns-else-name_is_empty : goal.returns-else-name_is_empty
-unfolding number_of
-returns-else-name_is_empty c =
-    let function : (t : Bool) → c.args.name_is_empty ≡ t
-    → accepted (cond t (pos 1) (pos 0)) ≡ delta_answer c.args.name c.args.values c.args.name_is_empty = λ t e. let a = c.args in
-    ap (λ (x : Bool). accepted (cond x (pos 1) (pos 0))) (sym e)
-    ∙ laws.at-function a.name a.values a.name_is_empty c.if-values-gt65536.false c.in-DefineFunction.in-DefineFunction-own.keys2 in
-    function false c.if-name_is_empty.false
+pub returns-in-DefineFunction : goal.returns-in-DefineFunction
+returns-in-DefineFunction c =
+    let a = c.args in
+    laws.at-function a.name a.values a.name_is_empty c.if-values-gt65536.false c.from.result c.from.ensures c.in-DefineFunction.is
 
 pub returns-in-CallFunction : goal.returns-in-CallFunction
 unfolding number_of
