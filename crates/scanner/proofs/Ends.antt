@@ -1,61 +1,15 @@
--- Where the parts of a number end, by the byte that stands there; and that they end within the text. Assumes nothing.
-use mathlib.Core.Path.{◌≡◌, refl, ◌∙◌}
+-- The parts of a number end within the text. Assumes nothing.
+use mathlib.Core.Path.{◌≡◌, refl}
 use mathlib.Core.Bool.{Bool, true, false, cond, ◌||◌, false≢true}
 use mathlib.Core.List.{List}
 use Prim.Native.Nat.{ℕ, ◌+◌, ◌≤◌, ◌<◌}
 use native.Mathlib.Omega.{arith}
 use lib.Dec.{eqb, ltb}
 use lib.ListN.{length, get_or}
-use borrow.Author.Tests.{lt-ltb, le-ltb, eq-eqb, ne_eqb, eqb-true}
+use borrow.Author.Tests.{eqb-true}
 use Rattle.scanner.specs.Bytes.{is_digit}
 use Rattle.scanner.specs.Ends.{digits_end, point_end, sign_end, power_end, exponent_end}
 use Rattle.scanner.proofs.Runs.{run_fits, inside}
-
-module _ (s : List ℕ) (i b : ℕ) (at : b ≡ get_or s i 0) where
-  pub point : (r : ℕ) → b ≡ 46 → r ≡ digits_end s (i + 1) → r ≡ point_end s i
-  unfolding point_end
-  point r h e = e ∙ simp (← at, eq-eqb b 46 h)
-
-  pub no_point : (b ≡ 46 → ⊥) → i ≡ point_end s i
-  unfolding point_end
-  no_point h = simp (← at, ne_eqb b 46 h)
-
-  pub plus : b ≡ 43 → i + 1 ≡ sign_end s i
-  unfolding sign_end
-  plus h = simp (← at, eq-eqb b 43 h)
-
-  module _ (g : b ≡ 43 → ⊥) where
-    pub minus : b ≡ 45 → i + 1 ≡ sign_end s i
-    unfolding sign_end
-    minus h = simp (← at, ne_eqb b 43 g, eq-eqb b 45 h)
-
-    pub no_sign : (b ≡ 45 → ⊥) → i ≡ sign_end s i
-    unfolding sign_end
-    no_sign h = simp (← at, ne_eqb b 43 g, ne_eqb b 45 h)
-
-  module _ (m r : ℕ) (em : m ≡ sign_end s (i + 1)) (er : r ≡ power_end s m) where
-    pub small_e : b ≡ 101 → r ≡ exponent_end s i
-    unfolding exponent_end
-    small_e h = er ∙ simp (← at, eq-eqb b 101 h, em)
-
-    pub large_e : (b ≡ 101 → ⊥) → b ≡ 69 → r ≡ exponent_end s i
-    unfolding exponent_end
-    large_e g h = er ∙ simp (← at, ne_eqb b 101 g, eq-eqb b 69 h, em)
-
-  pub no_e : (b ≡ 101 → ⊥) → (b ≡ 69 → ⊥) → i ≡ exponent_end s i
-  unfolding exponent_end
-  no_e g h = simp (← at, ne_eqb b 101 g, ne_eqb b 69 h)
-
-module _ (s : List ℕ) (i e : ℕ) (ee : e ≡ digits_end s i) where
-  pub power : e < length s → e ≡ power_end s i
-  unfolding power_end
-  power h = ee ∙ simp (lt-ltb (digits_end s i) (length s) (omega arith))
-
-  pub no_power : length s ≤ e → i ≡ power_end s i
-  unfolding power_end
-  no_power h = simp (le-ltb (digits_end s i) (length s) (omega arith))
-
--- ---- from i on, and within the text
 
 pub record Within (s : List ℕ) (i e : ℕ) : Type 0 where
   pub from : i ≤ e

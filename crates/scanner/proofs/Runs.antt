@@ -2,7 +2,7 @@
 use mathlib.Core.Path.{◌≡◌}
 use mathlib.Core.Bool.{Bool, true, false, cond}
 use mathlib.Core.List.{List, [], ◌∷◌}
-use Prim.Native.Nat.{ℕ, zero, suc, ◌+◌, ◌≤◌, ◌<◌}
+use Prim.Native.Nat.{ℕ, zero, suc, ◌+◌, ◌≤◌, ◌<◌, max}
 use native.Mathlib.Numerals.{add-one}
 use native.Mathlib.Omega.{arith}
 use lib.ListN.{length, drop, get_or, drop_of_length-le, length-drop, get_or-eq_default}
@@ -73,3 +73,7 @@ pub inside : (s : List ℕ) (i : ℕ) → 0 < get_or s i 0 → i < length s
 inside [] i h = omega (arith, get_or-eq_default {A = ℕ} [] 0 {n = i} (omega arith))
 inside (b ∷ s) zero h = omega arith
 inside (b ∷ s) (suc i) h = omega (arith, inside s i h)
+
+-- where a loop from i on has passed all n bytes, what it found is the larger of i and n
+pub at_last : (i n j m v : ℕ) → m ≡ max i n → n ≤ j → (i ≤ n → j ≤ n) → (n ≤ i → i ≡ v) → j ≡ v → m ≡ v
+at_last i n j m v e h f g k = grind arith

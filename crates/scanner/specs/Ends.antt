@@ -1,15 +1,14 @@
 -- Where a word, a number and a string end: document 01, 'Tokens'. A byte past the end of the text counts as 0.
-use Rattle.std.specs.Prelude.{Bool, true, false, cond, not, ◌&&◌, ◌||◌, List, [], ◌∷◌, ℕ, suc, ◌+◌, eqb, ltb, length, drop, get_or}
+use Rattle.std.specs.Prelude.{◌≡◌, ◌<◌, Bool, false, cond, not, ◌&&◌, ◌||◌, List, [], ◌∷◌, ℕ, suc, ◌+◌, eqb, ltb, length, drop, get_or}
 use Rattle.scanner.specs.Bytes.{is_digit, is_word_byte, run_of}
 
 -- where a run of bytes from i on ends
 abbrev pub run_end : (ℕ → Bool) → List ℕ → ℕ → ℕ
 run_end p s i = i + run_of p (drop i s)
 
--- the test of a run: of bytes of a word, or of digits
-abbrev pub test_of : Bool → ℕ → Bool
-test_of true b = is_word_byte b
-test_of false b = is_digit b
+-- calls that answer, of each byte, what the test p says
+abbrev pub Computes : (ℕ → Bool → Type 0) → (ℕ → Bool) → Type 0
+Computes post p = (b : ℕ) (r : Bool) → b < 256 → post b r → r ≡ p b
 
 -- ---- a word
 

@@ -1,166 +1,121 @@
 // Where words, numbers and strings end. From lexer.rs.
 #![tactic(auto)]
 
-ghost use Rattle.std.specs.Prelude.{◌≡◌, ◌≤◌, length, get_or};
+ghost use Rattle.std.specs.Prelude.{◌≡◌, Bool, ℕ, ◌≤◌, length, get_or};
 ghost use Rattle.scanner.specs.Bytes.{is_digit, is_word_byte};
-ghost use Rattle.scanner.specs.Ends.{run_end, test_of, word_end, digits_end, point_end, sign_end, power_end, exponent_end, stops, protects_next, string_stop};
+ghost use Rattle.scanner.specs.Ends.{Computes, run_end, word_end, digits_end, point_end, sign_end, power_end, exponent_end, stops, protects_next, string_stop};
 
 // The byte at an index, 0 past the end.
 pub fn byte_at(s: &[u8], i: usize) -> u8
     ensures { result ≡ get_or s.now i 0 }
 {
-    if i < s.len() {
-        return s[i];
-    }
-    0
+    s.get(i).copied().unwrap_or(0)
 }
 
 pub fn is_digit(b: u8) -> bool
     ensures { result ≡ is_digit b }
 {
-    if b < 48 {
-        return false;
-    }
-    b <= 57
+    matches!(b, b'0'..=b'9')
 }
 
 // Small letters are the most frequent, so they are asked for first.
+#[tactic(auto, unfolding(crate::specs::Bytes::is_word_byte))]
 fn is_word_byte(b: u8) -> bool
     ensures { result ≡ is_word_byte b }
 {
-    if b'a' <= b {
-        return b <= b'z';
-    }
-    if b'A' <= b {
-        if b <= b'Z' {
-            return true;
-        }
-        return b == b'_';
-    }
-    if b'0' <= b {
-        return b <= b'9';
-    }
-    b == b'$'
+    matches!(b, b'a'..=b'z' | b'A'..=b'Z' | b'0'..=b'9' | b'_' | b'$')
 }
 
-fn passes(words: bool, b: u8) -> bool
-    ensures { result ≡ test_of words b }
+// Where the run of bytes from an index on ends that pass a test.
+fn run_end<P: Fn(u8) -> bool>(s: &[u8], from: usize, passes: P) -> usize
+    requires { P.IsAlwaysCallable passes }
+    ensures { (p : ℕ → Bool) → Computes (P.post passes) p → result ≡ run_end p s.now from }
 {
-    if words {
-        return is_word_byte(b);
-    }
-    is_digit(b)
-}
-
-// Where the run from an index on ends: of bytes of a word, or of digits.
-fn run_end(s: &[u8], from: usize, words: bool) -> usize
-    ensures { result ≡ run_end (test_of words) s.now from }
-{
-    let mut i = from;
-    while i < s.len() {
-        if !passes(words, s[i]) {
+    for i in from..s.len() {
+        if !passes(s[i]) {
             return i;
         }
-        i += 1;
     }
-    i
+    from.max(s.len())
 }
 
 pub fn word_end(s: &[u8], from: usize) -> usize
     ensures { result ≡ word_end s.now from }
 {
-    run_end(s, from, true)
+    run_end(s, from, is_word_byte)
 }
 
 pub fn digits_end(s: &[u8], from: usize) -> usize
     ensures { result ≡ digits_end s.now from }
 {
-    run_end(s, from, false)
+    run_end(s, from, is_digit)
 }
 
+#[tactic(auto, unfolding(crate::specs::Ends::point_end))]
 pub fn point_end(s: &[u8], i: usize) -> usize
     requires { i ≤ length s.now }
     ensures { result ≡ point_end s.now i }
 {
     if byte_at(s, i) == b'.' {
-        return digits_end(s, i + 1);
+        digits_end(s, i + 1)
+    } else {
+        i
     }
-    i
 }
 
+#[tactic(auto, unfolding(crate::specs::Ends::sign_end))]
 pub fn sign_end(s: &[u8], i: usize) -> usize
     requires { i ≤ length s.now }
     ensures { result ≡ sign_end s.now i }
 {
-    let b = byte_at(s, i);
-    if b == b'+' {
-        return i + 1;
+    match byte_at(s, i) {
+        b'+' | b'-' => i + 1,
+        _ => i,
     }
-    if b == b'-' {
-        return i + 1;
-    }
-    i
 }
 
 // The digits of an exponent, unless they run to the end of the text.
+#[tactic(auto, unfolding(crate::specs::Ends::power_end))]
 fn power_end(s: &[u8], i: usize) -> usize
     ensures { result ≡ power_end s.now i }
 {
     let e = digits_end(s, i);
-    if e < s.len() {
-        return e;
-    }
-    i
+    if e < s.len() { e } else { i }
 }
 
+#[tactic(auto, using(crate::proofs::Runs::inside), unfolding(crate::specs::Ends::exponent_end))]
 pub fn exponent_end(s: &[u8], i: usize) -> usize
     requires { i ≤ length s.now }
     ensures { result ≡ exponent_end s.now i }
 {
-    let b = byte_at(s, i);
-    if b == b'e' {
-        return power_end(s, sign_end(s, i + 1));
+    match byte_at(s, i) {
+        b'e' | b'E' => power_end(s, sign_end(s, i + 1)),
+        _ => i,
     }
-    if b == b'E' {
-        return power_end(s, sign_end(s, i + 1));
-    }
-    i
 }
 
 fn is_stop(protected: bool, b: u8) -> bool
     ensures { result ≡ stops protected b }
 {
-    if b == b'\n' {
-        return true;
-    }
-    if protected {
-        return false;
-    }
-    b == b'"'
+    b == b'\n' || (!protected && b == b'"')
 }
 
 fn protects(protected: bool, b: u8) -> bool
     ensures { result ≡ protects_next protected b }
 {
-    if protected {
-        return false;
-    }
-    b == b'\\'
+    !protected && b == b'\\'
 }
 
 // Where a string stops whose text starts at `from`: at its closing quote, a line feed or the end.
 pub fn string_stop(s: &[u8], from: usize) -> usize
     ensures { result ≡ string_stop s.now from }
 {
-    let mut i = from;
     let mut protected = false;
-    while i < s.len() {
-        let b = s[i];
-        if is_stop(protected, b) {
+    for i in from..s.len() {
+        if is_stop(protected, s[i]) {
             return i;
         }
-        protected = protects(protected, b);
-        i += 1;
+        protected = protects(protected, s[i]);
     }
-    i
+    from.max(s.len())
 }

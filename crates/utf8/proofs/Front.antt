@@ -1,6 +1,6 @@
 -- Plain characters at the front of a text. Assumes nothing.
 use mathlib.Core.Path.{◌≡◌, refl, ap, sym, subst, ◌∙◌}
-use mathlib.Core.Bool.{Bool, true, ◌&&◌, and-eq-true_iff}
+use mathlib.Core.Bool.{true, and-eq-true_iff}
 use mathlib.Core.List.{List, [], ◌∷◌}
 use Prim.Native.Nat.{ℕ, ◌+◌, ◌≤◌, ◌<◌}
 use native.Mathlib.Nat.{add-zero}
@@ -34,7 +34,3 @@ four_more s i h f e =
     let f2 = one_more s (i + 1) (i + 2) (omega arith) f1 (omega arith) b.0 in
     let f3 = one_more s (i + 2) (i + 3) (omega arith) f2 (omega arith) c.0 in
     one_more s (i + 3) (i + 4) (omega arith) f3 (omega arith) c.1
-
--- the last test decides
-pub decides : (a b c : Bool) {d : Bool} → a ≡ true → b ≡ true → c ≡ true → d ≡ (a && (b && (c && d)))
-decides a b c e f g = rw (e, f, g)

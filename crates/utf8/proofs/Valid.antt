@@ -1,10 +1,11 @@
 -- How the count of valid bytes goes on by a character. Assumes nothing.
 use mathlib.Core.Path.{◌≡◌, refl, ap, sym, ◌∙◌}
 use mathlib.Core.List.{List, [], ◌∷◌}
-use Prim.Native.Nat.{ℕ, zero, suc, ◌+◌, ◌≤◌, ◌<◌}
+use Prim.Native.Nat.{ℕ, zero, suc, ◌+◌, ◌-◌, ◌≤◌, ◌<◌}
 use native.Mathlib.Omega.{arith}
-use lib.ListN.{length, drop, drop_of_length-le}
+use lib.ListN.{length, take, drop, drop_of_length-le, length-drop}
 use lib.Seq.{drop-drop}
+use Rattle.laws.proofs.Lists.{to_the_end}
 use Rattle.utf8.specs.Utf8.{char_len, rows, valid_from, valid_up_to}
 use Rattle.utf8.proofs.Starts.{char_fits}
 
@@ -38,3 +39,17 @@ module _ (s : List ℕ) (i : ℕ) (so : valid_up_to s ≡ i + valid_up_to (drop 
   pub end : length s ≤ i → i ≡ valid_up_to s
   unfolding valid_from
   end h = sym (so ∙ simp (drop_of_length-le s h) (omega arith))
+
+  -- the same from the length that the code finds
+  module _ (n : ℕ) (e : n ≡ char_len (take (length s - i) (drop i s))) where
+    here : char_len (drop i s) ≡ n
+    here = ap char_len (sym (to_the_end s i)) ∙ sym e
+
+    pub none-here : n ≡ 0 → i ≡ valid_up_to s
+    none-here z = stop (here ∙ z)
+
+    pub inside : i ≤ length s → i + n ≤ length s
+    inside h = omega (arith, here, char_fits rows (drop i s), length-drop i s)
+
+    pub some-here : 0 < n → valid_up_to s ≡ i + n + valid_up_to (drop (i + n) s)
+    some-here p = on n here p

@@ -1,32 +1,18 @@
--- `scanner::run_end` meets its contract: from here the run ends where it ends from the start. Assumes nothing.
+-- `scanner::run_end` meets its contract. Assumes nothing.
 use borrow.Author.Rules.{rules}
-use borrow.Author.Tests.{not-true, not-false}
-use mathlib.Core.Path.{◌≡◌, sym, ◌∙◌}
-use Prim.Native.Nat.{◌-◌}
-use native.Mathlib.Omega.{arith}
-use lib.ListN.{length}
-use Rattle.scanner.specs.Ends.{run_end, test_of}
+use mathlib.Core.Path.{sym, ◌∙◌}
 use Rattle.scanner.proofs.Runs as laws
 use Rattle.scanner.proofs.run_end.Goals as goal
 
 pub returns-then-not-passes : goal.returns-then-not-passes
-returns-then-not-passes c =
-    let a = c.args in
-    let l = c.loop-i in
-    laws.run-stop (test_of a.words) a.s.now l.i c.loop-i-test.true
-    (sym c.passes.ensures ∙ not-true _ c.if-not-passes.true-raw)
-    ∙ sym l.invariant
+returns-then-not-passes g c p h =
+    laws.run-stop p _ _ c.loop-i-test.true (sym (h _ _ (search rules) c.if-not-passes.ensures)) ∙ sym (c.loop-i.invariant p h)
 
 pub loop-i-preserved : goal.loop-i-preserved
-loop-i-preserved c =
-    let a = c.args in
-    let l = c.loop-i in
-    l.invariant
-    ∙ laws.run_on (test_of a.words) a.s.now l.i c.loop-i-test.true
-    (sym c.passes.ensures ∙ not-false _ c.if-not-passes.false-raw)
+loop-i-preserved g c p h =
+    c.loop-i.invariant p h ∙ laws.run_on p _ _ c.loop-i-test.true (sym (h _ _ (search rules) c.if-not-passes.ensures))
 
 pub returns : goal.returns
-returns c =
-    let a = c.args in
-    let l = c.loop-i in
-    laws.run-last (test_of a.words) a.s.now l.i (omega arith) ∙ sym l.invariant
+returns g c p h =
+    laws.at_last c.args.from _ c.loop-i.i _ _ c.max.ensures c.loop-i-test.false c.loop-i.auto.i-end (laws.run-last p c.args.s.now c.args.from)
+    (laws.run-last p c.args.s.now c.loop-i.i c.loop-i-test.false ∙ sym (c.loop-i.invariant p h))

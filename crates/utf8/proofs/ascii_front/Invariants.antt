@@ -1,11 +1,7 @@
--- `utf8::ascii_front` meets its contract. Assumes nothing.
-use mathlib.Core.Path.{sym, ◌∙◌}
+-- The bytes so far are valid.
 use Prim.Native.Nat.{◌-◌}
-use native.Mathlib.Omega.{arith}
 use lib.ListN.{length}
-use borrow.Author.Tests.{not-false}
 use Rattle.utf8.specs.Front.{ValidFront}
-use Rattle.utf8.proofs.Front.{four_more}
 use Rattle.utf8.proofs.ascii_front.Given as goal
 
 abbrev pub invariant-loop-at : goal.invariant-loop-at

@@ -1,13 +1,8 @@
--- `utf8::valid_up_to` meets its contract: the count so far, and that of what is left. Assumes nothing.
-use borrow.Author.Rules.{rules}
-use mathlib.Core.Path.{◌≡◌, ap, sym, ◌∙◌}
+-- The count so far, and that of what is left.
+use mathlib.Core.Path.{◌≡◌}
 use Prim.Native.Nat.{◌+◌, ◌-◌, ◌≤◌}
-use native.Mathlib.Omega.{arith}
-use lib.ListN.{length, drop, length-drop}
-use Rattle.laws.proofs.Lists.{to_the_end}
-use Rattle.utf8.specs.Utf8.{char_len, rows, valid_up_to}
-use Rattle.utf8.proofs.Starts.{char_fits}
-use Rattle.utf8.proofs.Valid as laws
+use lib.ListN.{length, drop}
+use Rattle.utf8.specs.Utf8.{valid_up_to}
 use Rattle.utf8.proofs.valid_up_to.Given as goal
 
 abbrev pub invariant-loop-at : goal.invariant-loop-at
