@@ -8,6 +8,7 @@ use native.Mathlib.Decide.{ℕ_discrete}
 use lib.ListN.{length, take, drop, length-append, length-map, length-replicate, replicate}
 use lib.Dec.{eqb}
 use lib.Seq.{take_at}
+use Rattle.std.specs.Prelude.{Some, None}
 use Rattle.events.specs.Log.{kind_of}
 use Rattle.counting.proofs.Counts.{zero_if}
 use Rattle.counting.specs.Counting.{one_if, count_of}
@@ -25,7 +26,6 @@ use Rattle.reading.proofs.Labels.{is_found, labels-merged, all_sound}
 use Rattle.reading.proofs.Sets.{at_front}
 use Rattle.reading.proofs.Front.{few-of, levels_many}
 use Rattle.reading.proofs.Tallies.{tallied}
-use Rattle.labelling.specs.declared.Put.TheVariants as P
 use Rattle.labelling.specs.Naming.{Collects, steps, start}
 use Rattle.labelling.specs.Putting.{Asked, Roomy, LabelsAsked, PutOf}
 use Rattle.labelling.proofs.Names.{all_named}
@@ -72,10 +72,6 @@ empty (y ∷ l) e = absurd (omega arith)
 module _ (text s log : List ℕ) (n levels : ℕ) (asked : Asked text s log n levels) where
   pub named-few : n ≤ 65536
   named-few = omega (arith, asked.names, asked.counted.labels, count-few 1 log, asked.few)
-
-  -- a log has no more labels than events
-  pub no_more : length log < n → ⊥
-  no_more h = omega (arith, asked.names, asked.counted.labels, count-few 1 log)
 
   pub all-few : n + levels ≤ 65537
   all-few = omega (arith, asked.names, asked.opens, asked.counted.labels, asked.counted.levels, both_few log, asked.few)
@@ -130,18 +126,18 @@ module _ (text s log : List ℕ) (n levels : ℕ) (asked : Asked text s log n le
       many : m ≡ length (reading_of x).labels
       many = w.count ∙ ap length all-merged ∙ words_many
 
-      pub short : (old : List ℕ) → length old < m → PutOf x old old P.Short
+      pub short : (old : List ℕ) → length old < m → PutOf x old old None
       unfolding PutOf
       short old g = (omega (arith, many), refl)
 
-      pub put : (old new : List ℕ) → m ≤ length old → new ≡ take m N'' ++ drop m old → PutOf x old new (P.Labels m)
+      pub put : (old new : List ℕ) → m ≤ length old → new ≡ take m N'' ++ drop m old → PutOf x old new (Some m)
       unfolding PutOf
       put old new g f =
           let l = merged text s [] (grouped levels (take n N')) in
           let t : take m N'' ≡ label_words (reading_of x) = ap (take m) w.labels ∙ take_at l (drop (length l) N') m (sym w.count) ∙ all-merged in
           (many, (g, f ∙ (λ j. t j ++ drop ((many ∙ sym words_many) j) old)))
 
-    pub nothing : n ≡ 0 → (old : List ℕ) → PutOf x old old (P.Labels 0)
+    pub nothing : n ≡ 0 → (old : List ℕ) → PutOf x old old (Some 0)
     unfolding PutOf
     nothing z old =
         let e₀ : [] ≡ label_words (reading_of x) =

@@ -1,5 +1,5 @@
 -- What handing labels to a lent table asks and leaves.
-use Rattle.std.specs.Prelude.{◌≡◌, List, ℕ, ◌≤◌, ◌<◌, length, take}
+use Rattle.std.specs.Prelude.{◌≡◌, List, ℕ, ◌≤◌, ◌<◌, length, take, Option, Some, None}
 use Rattle.grouping.specs.Grouping.{Below}
 use Rattle.grammar.specs.Grammar.{Items}
 use Rattle.grammar.specs.Reading.{reading_of}
@@ -8,8 +8,6 @@ use Rattle.counting.specs.Counting.{Counted}
 use Rattle.parser.specs.Parsed.{log_of}
 use Rattle.reading.specs.Tables.{front, label_words}
 use Rattle.reading.specs.Told.{Known}
-use Rattle.labelling.specs.declared.Put.{Put}
-use Rattle.labelling.specs.declared.Put.TheVariants as P
 
 -- the log of a tree, and its counts
 pub record Asked (text s log : List ℕ) (n levels : ℕ) : Type 0 where
@@ -38,10 +36,10 @@ pub record LabelsAsked (n levels : ℕ) (labels sorted starts : List ℕ) : Type
   pub keys : Below levels (take n labels)
 
 -- the labels of the reading of x, if there is room for them
-unfoldable pub PutOf : Items → List ℕ → List ℕ → Put → Type 0
-PutOf x old new (P.Labels m) = (m ≡ length (reading_of x).labels) × ((m ≤ length old) × (new ≡ front (label_words (reading_of x)) old))
-PutOf x old new P.Short = (length old < length (reading_of x).labels) × (new ≡ old)
+unfoldable pub PutOf : Items → List ℕ → List ℕ → Option ℕ → Type 0
+PutOf x old new (Some m) = (m ≡ length (reading_of x).labels) × ((m ≤ length old) × (new ≡ front (label_words (reading_of x)) old))
+PutOf x old new None = (length old < length (reading_of x).labels) × (new ≡ old)
 
 -- of whatever tree it is the log
-abbrev pub Puts : (text s log old new : List ℕ) → Put → Type 0
+abbrev pub Puts : (text s log old new : List ℕ) → Option ℕ → Type 0
 Puts text s log old new r = (x : Items) → Known text s x → log ≡ log_of x → PutOf x old new r

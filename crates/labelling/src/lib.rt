@@ -9,7 +9,7 @@ ghost use Rattle.entries.specs.Levels.{LabelFits};
 ghost use Rattle.labels.specs.Labels.{Merged};
 ghost use Rattle.grouping.specs.Grouping.{grouped};
 ghost use Rattle.labelling.specs.Naming.{acts, naming, here, by, Collects, Few};
-ghost use Rattle.labelling.specs.Putting.{Asked, Roomy, LabelsAsked, Puts};
+ghost use Rattle.labelling.specs.Putting.{Asked, LabelsAsked, Puts};
 
 use entries::{Label, label_in, put_label};
 use events::{Event, event_of};
@@ -28,13 +28,7 @@ pub struct Namer {
 fn acts(event: Event) -> usize
     ensures { (result ≡ acts event) × (result ≤ 1) }
 {
-    match event {
-        Event::Action(_) => 1,
-        Event::Label(_) => 0,
-        Event::Operand(_) => 0,
-        Event::Opened(_) => 0,
-        Event::Closed => 0,
-    }
+    usize::from(matches!(event, Event::Action(_)))
 }
 
 // Puts where a label, or a level, stands in the open level.
@@ -56,48 +50,33 @@ fn name_event(event: Event, n: Namer, own: &mut [u64], named: &mut [u64]) -> Nam
     requires { Few 65536 own.old n × Holds event }
     ensures { naming own.new named.new result ≡ by event (naming own.old named.old n) }
 {
-    let level = n.level;
-    let levels = n.levels;
-    let labels = n.labels;
-    let actions = n.actions + acts(event);
     match event {
-        Event::Action(_) => Namer {
-            level,
-            levels,
-            labels,
-            actions,
+        Event::Action(_) | Event::Operand(_) => Namer {
+            actions: n.actions + acts(event),
+            ..n
         },
         Event::Label(token) => {
-            put_here(named, labels, n, token as usize);
+            put_here(named, n.labels, n, token as usize);
             Namer {
-                level,
-                levels,
-                labels: labels + 1,
-                actions: n.actions,
+                labels: n.labels + 1,
+                ..n
             }
         }
-        Event::Operand(_) => Namer {
-            level,
-            levels,
-            labels,
-            actions,
-        },
         Event::Opened(_) => {
-            put_here(own, levels, n, 0);
+            put_here(own, n.levels, n, 0);
             Namer {
-                level: levels,
-                levels: levels + 1,
-                labels,
+                level: n.levels,
+                levels: n.levels + 1,
                 actions: 0,
+                ..n
             }
         }
         Event::Closed => {
-            let place = label_in(own, level);
+            let place = label_in(own, n.level);
             Namer {
                 level: place.level,
-                levels,
-                labels,
                 actions: place.position,
+                ..n
             }
         }
     }
@@ -120,11 +99,9 @@ fn collect(log: &[u64], own: &mut [u64], named: &mut [u64])
         labels: 0,
         actions: 0,
     };
-    let mut i = 0;
-    while i < log.len() {
-        let event = event_of(log[i]);
+    for word in log {
+        let event = event_of(*word);
         n = name_event(event, n, own, named);
-        i += 1;
     }
 }
 
@@ -146,137 +123,34 @@ fn arrange_labels(
     labels::merge_labels(text, s, sorted, n, labels, starts)
 }
 
-// How many labels the lent table got, or that it has too few places for so many; then it is as it was.
-#[derive(Clone, Copy)]
-pub enum Put {
-    Labels(usize),
-    Short,
-}
-
-fn put_over(
+// Over scratch of N places.
+#[inline(never)]
+fn put_over<const N: usize>(
     text: &[u8],
     s: &[u64],
     log: &[u64],
     n: usize,
     levels: usize,
-    named: &mut [u64],
-    sorted: &mut [u64],
-    starts: &mut [u64],
     labels: &mut [u64],
-) -> Put
+) -> Option<usize>
     requires asked { Asked text.now s.now log.now n levels }
-    requires roomy { Roomy n levels named.old sorted.old starts.old }
+    requires roomy { (n ≤ N) × ((levels < N) × (N ≤ 65536)) }
     ensures { Puts text.now s.now log.now labels.old labels.new result }
 {
-    collect(log, starts, named);
-    let m = arrange_labels(text, s, n, levels, named, sorted, starts);
+    let mut named = [0u64; N];
+    let mut sorted = [0u64; N];
+    let mut starts = [0u64; N];
+    collect(log, &mut starts, &mut named);
+    let m = arrange_labels(text, s, n, levels, &mut named, &mut sorted, &mut starts);
     if labels.len() < m {
-        return Put::Short;
+        return None;
     }
-    copy_front(named, m, labels);
-    Put::Labels(m)
+    copy_front(&named, m, labels);
+    Some(m)
 }
 
-// A function that calls itself has a frame of its own: the compiler does not merge it into its caller's, which a call with few labels
-// would pay for. No log leads to such a call.
-
-fn put_64(text: &[u8], s: &[u64], log: &[u64], n: usize, levels: usize, labels: &mut [u64]) -> Put
-    requires asked { Asked text.now s.now log.now n levels }
-    requires levels_bound { n + levels ≤ 64 }
-    ensures { Puts text.now s.now log.now labels.old labels.new result }
-{
-    let mut named = [0u64; 66];
-    let mut sorted = [0u64; 66];
-    let mut starts = [0u64; 66];
-    put_over(
-        text,
-        s,
-        log,
-        n,
-        levels,
-        &mut named,
-        &mut sorted,
-        &mut starts,
-        labels,
-    )
-}
-
-fn put_512(text: &[u8], s: &[u64], log: &[u64], n: usize, levels: usize, labels: &mut [u64]) -> Put
-    requires asked { Asked text.now s.now log.now n levels }
-    requires levels_bound { n + levels ≤ 512 }
-    ensures { Puts text.now s.now log.now labels.old labels.new result }
-{
-    let mut named = [0u64; 514];
-    let mut sorted = [0u64; 514];
-    let mut starts = [0u64; 514];
-    put_over(
-        text,
-        s,
-        log,
-        n,
-        levels,
-        &mut named,
-        &mut sorted,
-        &mut starts,
-        labels,
-    )
-}
-
-fn put_4096(text: &[u8], s: &[u64], log: &[u64], n: usize, levels: usize, labels: &mut [u64]) -> Put
-    requires asked { Asked text.now s.now log.now n levels }
-    requires levels_bound { n + levels ≤ 4096 }
-    ensures { Puts text.now s.now log.now labels.old labels.new result }
-{
-    if log.len() < n {
-        return put_4096(text, s, log, n, levels, labels);
-    }
-    let mut named = [0u64; 4098];
-    let mut sorted = [0u64; 4098];
-    let mut starts = [0u64; 4098];
-    put_over(
-        text,
-        s,
-        log,
-        n,
-        levels,
-        &mut named,
-        &mut sorted,
-        &mut starts,
-        labels,
-    )
-}
-
-fn put_32768(
-    text: &[u8],
-    s: &[u64],
-    log: &[u64],
-    n: usize,
-    levels: usize,
-    labels: &mut [u64],
-) -> Put
-    requires { Asked text.now s.now log.now n levels }
-    ensures { Puts text.now s.now log.now labels.old labels.new result }
-{
-    if log.len() < n {
-        return put_32768(text, s, log, n, levels, labels);
-    }
-    let mut named = [0u64; 32770];
-    let mut sorted = [0u64; 32770];
-    let mut starts = [0u64; 32770];
-    put_over(
-        text,
-        s,
-        log,
-        n,
-        levels,
-        &mut named,
-        &mut sorted,
-        &mut starts,
-        labels,
-    )
-}
-
-// The labels of a log that names n of them, in so many levels.
+// The labels of a log that names n of them, in so many levels: how many the lent table got. None: it has too few places for so
+// many, and is as it was. Scratch goes by their number, so that a call with few labels does not pay for that of many.
 pub fn put_labels(
     text: &[u8],
     s: &[u64],
@@ -284,21 +158,21 @@ pub fn put_labels(
     n: usize,
     levels: usize,
     labels: &mut [u64],
-) -> Put
+) -> Option<usize>
     requires { Asked text.now s.now log.now n levels }
     ensures { Puts text.now s.now log.now labels.old labels.new result }
 {
     if n == 0 {
-        return Put::Labels(0);
+        return Some(0);
     }
     if n + levels <= 64 {
-        return put_64(text, s, log, n, levels, labels);
+        return put_over::<66>(text, s, log, n, levels, labels);
     }
     if n + levels <= 512 {
-        return put_512(text, s, log, n, levels, labels);
+        return put_over::<514>(text, s, log, n, levels, labels);
     }
     if n + levels <= 4096 {
-        return put_4096(text, s, log, n, levels, labels);
+        return put_over::<4098>(text, s, log, n, levels, labels);
     }
-    put_32768(text, s, log, n, levels, labels)
+    put_over::<32770>(text, s, log, n, levels, labels)
 }

@@ -1,5 +1,5 @@
 -- `labelling::name_event` meets its contract. Assumes nothing.
-use borrow.Author.Rules.{rules}
+use mathlib.Core.Logic.{inl, inr}
 use mathlib.Core.Path.{ap, subst, ◌∙◌}
 use native.Mathlib.Omega.{arith}
 use Rattle.events.specs.Log.{Holds}
@@ -15,19 +15,15 @@ put_here-requires c =
 pub returns-in-Action : goal.returns-in-Action
 returns-in-Action c =
     let a = c.args in
-    let e = c.in-Action.is in
-    arm _ _ _ _ e (acted-is a.own.now a.named.now a.n _ (c.acts.ensures.0 ∙ ap acts e))
+    elim c.in-Action.is [
+      | inl e ↦ arm _ _ _ _ e.1 (acted-is a.own.now a.named.now a.n _ (c.acts.ensures.0 ∙ ap acts e.1))
+      | inr e ↦ arm _ _ _ _ e.1 (passed_is a.own.now a.named.now a.n _ (c.acts.ensures.0 ∙ ap acts e.1))
+    ]
 
 pub returns-in-Label : goal.returns-in-Label
 returns-in-Label c =
     let a = c.args in
     arm _ _ _ _ c.in-Label.is (name-is a.own.now a.named.now a.n _ _ c.put_here.ensures)
-
-pub returns-in-Operand : goal.returns-in-Operand
-returns-in-Operand c =
-    let a = c.args in
-    let e = c.in-Operand.is in
-    arm _ _ _ _ e (passed_is a.own.now a.named.now a.n _ (c.acts.ensures.0 ∙ ap acts e))
 
 pub returns-in-Opened : goal.returns-in-Opened
 returns-in-Opened c =
