@@ -1,21 +1,15 @@
 // Reading: a text's tokens, actions, operands, levels and labels, in lent tables. From as2_pcode.rs.
 #![tactic(auto)]
 
-ghost use Rattle.handover.specs.Reading.{ReadsWords as Reads, lent};
+ghost use Rattle.handover.specs.Reading.{ReadsWords as Reads, held_in, SameSlices};
 
 use answers::Refusal;
-pub use handover::Counts;
+pub use handover::{Counts, Tables};
 
 // Reads a text into the lent tables, or refuses it by rows 1 to 8.
-pub fn read(
-    text: &[u8],
-    tokens: &mut [u64],
-    actions: &mut [u64],
-    operands: &mut [u64],
-    levels: &mut [u64],
-    labels: &mut [u64],
-) -> Result<Counts, Refusal>
-    ensures { Reads text.now (lent tokens.old actions.old operands.old levels.old labels.old) (lent tokens.new actions.new operands.new levels.new labels.new) result }
+pub fn read(text: &[u8], tables: &mut Tables) -> Result<Counts, Refusal>
+    ensures reads { Reads text.now (held_in tables.old) (held_in tables.new) result }
+    ensures same_slices { SameSlices tables.old tables.new }
 {
     if 65536 < text.len() {
         return Err(Refusal::TooLong);
@@ -24,5 +18,5 @@ pub fn read(
     if valid < text.len() {
         return Err(Refusal::NotUtf8(valid));
     }
-    scratch::read_valid(text, valid, tokens, actions, operands, levels, labels)
+    scratch::read_valid(text, tables)
 }

@@ -1,132 +1,50 @@
 // Checking a text: it is read into held tables that go by its length, and only the answer is left.
 #![tactic(auto)]
 
-ghost use Rattle.std.specs.Prelude.{[], ◌∷◌, ◌≤◌, length};
+ghost use Rattle.std.specs.Prelude.{◌/◌, ◌≤◌, length};
+ghost use Rattle.handover.specs.Reading.{places_of};
+ghost use Rattle.held.specs.Held.{AmpleTokens, AmpleEntries};
 ghost use Rattle.checking.specs.Checks.{Checks};
 
 use answers::Refusal;
-use as2_pcode::Counts;
-use held::{read_held, token_count};
+use as2_pcode::{Counts, Tables};
+use held::read_held;
 
-fn check_1024(
+// Over held tables of T tokens, of E actions, operands and labels each, and of L words for levels.
+#[inline(never)]
+fn check_over<const T: usize, const E: usize, const L: usize>(
     text: &[u8],
-    tokens: usize,
-    actions: usize,
-    operands: usize,
-    levels: usize,
-    labels: usize,
+    places: Counts,
 ) -> Result<Counts, Refusal>
-    requires { length text.now ≤ 1024 }
-    ensures { Checks tokens (actions ∷ operands ∷ levels ∷ labels ∷ []) text.now result }
+    requires sizes { (T ≤ 65536) × ((E ≤ 65536) × (L ≤ 65538)) }
+    requires ample { AmpleTokens (length text.now) T × (AmpleEntries (length text.now) E × AmpleEntries (length text.now) (L / 2)) }
+    ensures { Checks places.tokens (places_of places) text.now result }
 {
-    let mut held_tokens = [0u64; 1024];
-    let mut held_actions = [0u64; 513];
-    let mut held_operands = [0u64; 513];
-    let mut held_levels = [0u64; 1026];
-    let mut held_labels = [0u64; 513];
-    read_held(
-        text,
-        tokens,
-        actions,
-        operands,
-        levels,
-        labels,
-        &mut held_tokens,
-        &mut held_actions,
-        &mut held_operands,
-        &mut held_levels,
-        &mut held_labels,
-    )
+    let mut tokens = [0u64; T];
+    let mut actions = [0u64; E];
+    let mut operands = [0u64; E];
+    let mut levels = [0u64; L];
+    let mut labels = [0u64; E];
+    let mut held = Tables {
+        tokens: &mut tokens,
+        actions: &mut actions,
+        operands: &mut operands,
+        levels: &mut levels,
+        labels: &mut labels,
+    };
+    read_held(text, places, &mut held)
 }
 
-// A function that calls itself has a frame of its own: the compiler does not merge it into its caller's, which a small text would
-// pay for. No text leads to such a call: it has no more tokens than bytes.
-
-fn check_4096(
-    text: &[u8],
-    tokens: usize,
-    actions: usize,
-    operands: usize,
-    levels: usize,
-    labels: usize,
-) -> Result<Counts, Refusal>
-    requires { length text.now ≤ 4096 }
-    ensures { Checks tokens (actions ∷ operands ∷ levels ∷ labels ∷ []) text.now result }
-{
-    let mut held_tokens = [0u64; 4096];
-    let mut held_actions = [0u64; 2049];
-    let mut held_operands = [0u64; 2049];
-    let mut held_levels = [0u64; 4098];
-    let mut held_labels = [0u64; 2049];
-    let reading = read_held(
-        text,
-        tokens,
-        actions,
-        operands,
-        levels,
-        labels,
-        &mut held_tokens,
-        &mut held_actions,
-        &mut held_operands,
-        &mut held_levels,
-        &mut held_labels,
-    );
-    if text.len() < token_count(reading) {
-        return check_4096(text, tokens, actions, operands, levels, labels);
-    }
-    reading
-}
-
-fn check_65536(
-    text: &[u8],
-    tokens: usize,
-    actions: usize,
-    operands: usize,
-    levels: usize,
-    labels: usize,
-) -> Result<Counts, Refusal>
-    ensures { Checks tokens (actions ∷ operands ∷ levels ∷ labels ∷ []) text.now result }
-{
-    let mut held_tokens = [0u64; 65536];
-    let mut held_actions = [0u64; 32769];
-    let mut held_operands = [0u64; 32769];
-    let mut held_levels = [0u64; 65538];
-    let mut held_labels = [0u64; 32769];
-    let reading = read_held(
-        text,
-        tokens,
-        actions,
-        operands,
-        levels,
-        labels,
-        &mut held_tokens,
-        &mut held_actions,
-        &mut held_operands,
-        &mut held_levels,
-        &mut held_labels,
-    );
-    if text.len() < token_count(reading) {
-        return check_65536(text, tokens, actions, operands, levels, labels);
-    }
-    reading
-}
-
-// What reading would answer with tables of so many places; nothing is lent, and nothing written.
-pub fn check(
-    text: &[u8],
-    tokens: usize,
-    actions: usize,
-    operands: usize,
-    levels: usize,
-    labels: usize,
-) -> Result<Counts, Refusal>
-    ensures { Checks tokens (actions ∷ operands ∷ levels ∷ labels ∷ []) text.now result }
+// What reading would answer with tables of so many places; nothing is lent, and nothing written. A small text does not pay for the
+// tables of a large one.
+pub fn check(text: &[u8], places: Counts) -> Result<Counts, Refusal>
+    ensures { Checks places.tokens (places_of places) text.now result }
 {
     if text.len() <= 1024 {
-        return check_1024(text, tokens, actions, operands, levels, labels);
+        return check_over::<1024, 513, 1026>(text, places);
     }
     if text.len() <= 4096 {
-        return check_4096(text, tokens, actions, operands, levels, labels);
+        return check_over::<4096, 2049, 4098>(text, places);
     }
-    check_65536(text, tokens, actions, operands, levels, labels)
+    check_over::<65536, 32769, 65538>(text, places)
 }

@@ -7,6 +7,7 @@ use Prim.Native.Nat.{ℕ, ◌≤◌, ◌<◌, min}
 use native.Mathlib.Omega.{arith}
 use lib.ListN.{length, take, drop, length-map, get_or-map}
 use lib.Seq.{ext_get_or, length-take-le, get_or-take}
+use Rattle.answers.specs.declared.Refusal.{Refusal}
 use Rattle.grammar.specs.Reading as G
 use Rattle.entries.specs.declared.Label.{Label}
 use Rattle.entries.specs.Entries.{level_places, label_of}
@@ -17,7 +18,7 @@ use Rattle.as2_pcode.proofs.Theorems.{labels-handed}
 use Rattle.held.specs.Held.{AmpleEntries}
 use Rattle.held.proofs.Fills.{inside, refilled, labels_fill, labels_fit}
 use Rattle.held.proofs.Cut.{all_serve, whole_part, cut-part, cut_serves, cut}
-use Rattle.entry_reading.specs.Words.{ReadsScratch, label_count}
+use Rattle.entry_reading.specs.Words.{ReadsScratch}
 
 -- ---- the scratch ws is cut to n words
 
@@ -55,23 +56,25 @@ module _ {room : ℕ} {ps text : List ℕ} {x y : Tables ℕ} {c : Counts} (a : 
 -- ---- the hand-over
 
 module _ (text tk ac op lv ws tk' ac' op' lv' ws' : List ℕ) (ls : List Label) where
-  pub enough : (r : Reading) {n : ℕ} → n ≡ label_count r → ReadsScratch (length ls) text (lent tk ac op lv ws) (lent tk' ac' op' lv' ws') r
-      → (n ≤ length ws') × (n ≤ length ls)
-  unfolding ReadsScratch
-  enough (Ok c) e a = (omega (arith, e, inside (labels_fill a)), omega (arith, e, labels_fit a))
-  enough (Err r) e a = (omega (arith, e), omega (arith, e))
+  module _ (c : Counts) (a : ReadsScratch (length ls) text (lent tk ac op lv ws) (lent tk' ac' op' lv' ws') (Ok c)) where
+    pub enough : (c.labels ≤ length ws') × (c.labels ≤ length ls)
+    unfolding ReadsScratch
+    enough = (inside (labels_fill a), labels_fit a)
 
-  pub handed : (r : Reading) {n : ℕ} {ls' : List Label} → n ≡ label_count r → ReadsScratch (length ls) text (lent tk ac op lv ws) (lent tk' ac' op' lv' ws') r
-      → ls' ≡ map label_of (take n ws') ++ drop n ls → Reads label_entry text (lent tk ac op lv ls) (lent tk' ac' op' lv' ls') r
+    pub handed : (ls' : List Label) → ls' ≡ map label_of (take c.labels ws') ++ drop c.labels ls
+        → Reads label_entry text (lent tk ac op lv ls) (lent tk' ac' op' lv' ls') (Ok c)
+    unfolding ReadsScratch Reads
+    handed ls' e =
+        let es = map label_entry a.reading.labels in
+        let made : ls' ≡ front es ls =
+        e ∙ ap (λ (l : List Label). l ++ drop c.labels ls) (labels_back a)
+        ∙ ap (λ (m : ℕ). es ++ drop m ls) (ap (λ (k : Counts). k.labels) a.counts ∙ sym (length-map a.reading.labels label_entry)) in
+        refilled a (λ i. record { tokens = (a.tables i).tokens; actions = (a.tables i).actions; operands = (a.tables i).operands; levels = (a.tables i).levels; labels = made i })
+
+  pub refused : (r : Refusal) → ReadsScratch (length ls) text (lent tk ac op lv ws) (lent tk' ac' op' lv' ws') (Err r)
+      → Reads label_entry text (lent tk ac op lv ls) (lent tk' ac' op' lv' ls) (Err r)
   unfolding ReadsScratch Reads
-  handed (Ok c) {n} {ls'} n-is a e =
-      let es = map label_entry a.reading.labels in
-      let made : ls' ≡ front es ls =
-      e ∙ ap (λ (m : ℕ). map label_of (take m ws') ++ drop m ls) n-is ∙ ap (λ (l : List Label). l ++ drop c.labels ls) (labels_back a)
-      ∙ ap (λ (m : ℕ). es ++ drop m ls) (ap (λ (k : Counts). k.labels) a.counts ∙ sym (length-map a.reading.labels label_entry)) in
-      refilled a (λ i. record { tokens = (a.tables i).tokens; actions = (a.tables i).actions; operands = (a.tables i).operands; levels = (a.tables i).levels; labels = made i })
-  handed (Err r) {n} {ls'} n-is a e =
-      let same : ls' ≡ ls = e ∙ ap (λ (m : ℕ). map label_of (take m ws') ++ drop m ls) n-is in (
-        a.0,
-        λ i. record { tokens = (a.1 i).tokens; actions = (a.1 i).actions; operands = (a.1 i).operands; levels = (a.1 i).levels; labels = same i },
-      )
+  refused r a = (
+    a.0,
+    λ i. record { tokens = (a.1 i).tokens; actions = (a.1 i).actions; operands = (a.1 i).operands; levels = (a.1 i).levels; labels = ls },
+  )

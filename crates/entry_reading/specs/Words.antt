@@ -1,5 +1,5 @@
 -- What the inner functions tell of label words in scratch. No public contract cites it.
-use Rattle.std.specs.Prelude.{List, [], ◌∷◌, ℕ, length, Ok, Err}
+use Rattle.std.specs.Prelude.{List, [], ◌∷◌, ℕ, length}
 use Rattle.entries.specs.Entries.{level_places}
 use Rattle.reading.specs.Tables.{label_entry_word}
 use Rattle.handover.specs.Reading.{Reading, Tables, ReadsFor}
@@ -8,8 +8,3 @@ use Rattle.handover.specs.Reading.{Reading, Tables, ReadsFor}
 unfoldable pub ReadsScratch : ℕ → List ℕ → (x y : Tables ℕ) → Reading → Type 0
 ReadsScratch room text x y r =
     ReadsFor label_entry_word (length x.tokens) (length x.actions ∷ length x.operands ∷ level_places x.levels ∷ room ∷ []) text x y r
-
--- the labels that are handed out
-abbrev pub label_count : Reading → ℕ
-label_count (Ok c) = c.labels
-label_count (Err r) = 0

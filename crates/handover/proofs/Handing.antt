@@ -1,5 +1,5 @@
 -- `read_log`: row 8, or the tables of the reading. Assumes nothing.
-use Rattle.std.specs.Prelude.{Ok, Err}
+use Rattle.std.specs.Prelude.{Ok, Err, Some, None}
 use mathlib.Core.Path.{◌≡◌, refl, sym, ap, ◌∙◌, subst}
 use mathlib.Core.List.{List, [], ◌∷◌, ◌++◌, map}
 use Prim.Native.Nat.{ℕ, zero, suc, ◌≤◌, ◌<◌}
@@ -22,12 +22,10 @@ use Rattle.reading.specs.Told.{Logged, Filled}
 use Rattle.reading.proofs.Places.{weaker_of}
 use Rattle.reading.proofs.Front as tables
 use Rattle.reading.proofs.Tallies.{TreeCounts, tallied}
-use Rattle.labelling.specs.declared.Put.{Put}
-use Rattle.labelling.specs.declared.Put.TheVariants as P
 use Rattle.labelling.specs.Putting.{Asked, PutOf}
 use Rattle.handover.specs.Reading.{Tables, places, Reads, ReadsWords, lent}
-use Rattle.handover.specs.Scratch.{lowest_short}
-use Rattle.handover.proofs.Rows.{Lowest, found, none, wider}
+use Rattle.handover.specs.Scratch.{Lowest, ShortOf}
+use Rattle.handover.proofs.Rows.{wider}
 
 module _ (text s log tokens actions operands levels labels : List ℕ) (r : Logged text (length tokens) s log) (c : Count) (d : Counted log c) where
   abbrev tree : Items
@@ -73,21 +71,18 @@ module _ (text s log tokens actions operands levels labels : List ℕ) (r : Logg
         refl,
       )
 
-  abbrev lowest : ℕ
-  lowest = lowest_short (length actions ∷ length operands ∷ level_places levels ∷ []) (c.actions ∷ c.operands ∷ c.levels ∷ [])
+  abbrev held-places : List ℕ
+  held-places = length actions ∷ length operands ∷ level_places levels ∷ []
 
-  pub row8 : (k : ℕ) → k ≡ lowest → k < 3 → ReadsWords text had had (Err (F.TableShort k))
-  row8 k e h =
-      let ps = length actions ∷ length operands ∷ level_places levels ∷ [] in
-      let es = c.actions ∷ c.operands ∷ c.levels ∷ [] in
+  abbrev asked-places : List ℕ
+  asked-places = c.actions ∷ c.operands ∷ c.levels ∷ []
+
+  pub row8 : (k : ℕ) → ShortOf held-places asked-places (Some k) → ReadsWords text had had (Err (F.TableShort k))
+  row8 k h =
       refused-at k (length (reading_of tree).labels) refl
-      (wider (length actions) (length operands) (level_places levels) (length labels) c.actions c.operands c.levels (length (reading_of tree).labels) k h
-      (subst (Lowest ps es) (sym e) (found ps es refl (omega (arith, e, h)))))
+      (wider (length actions) (length operands) (level_places levels) (length labels) c.actions c.operands c.levels (length (reading_of tree).labels) k h.0 h.1)
 
-  module _ (k : ℕ) (e : k ≡ lowest) (h : 3 ≤ k) where
-    roomy : (j : ℕ) → ¬ (get_or (length actions ∷ length operands ∷ level_places levels ∷ []) j 0 < get_or (c.actions ∷ c.operands ∷ c.levels ∷ []) j 0)
-    roomy = none (length actions ∷ length operands ∷ level_places levels ∷ []) (c.actions ∷ c.operands ∷ c.levels ∷ []) refl (omega (arith, e, h))
-
+  module _ (roomy : ShortOf held-places asked-places None) where
     actions-room : c.actions ≤ length actions
     actions-room = let n = roomy 0 in omega (arith, n)
 
@@ -97,7 +92,7 @@ module _ (text s log tokens actions operands levels labels : List ℕ) (r : Logg
     levels-room : c.levels ≤ level_places levels
     levels-room = let n = roomy 2 in omega (arith, n)
 
-    pub row8_labels : (labels' : List ℕ) → PutOf tree labels labels' P.Short → ReadsWords text had (lent tokens actions operands levels labels') (Err (F.TableShort 3))
+    pub row8_labels : (labels' : List ℕ) → PutOf tree labels labels' None → ReadsWords text had (lent tokens actions operands levels labels') (Err (F.TableShort 3))
     unfolding PutOf
     row8_labels labels' p =
         subst (λ l. ReadsWords text had (lent tokens actions operands levels l) (Err (F.TableShort 3))) (sym p.1)
@@ -109,10 +104,7 @@ module _ (text s log tokens actions operands levels labels : List ℕ) (r : Logg
         before (suc (suc zero)) i w = omega (arith, w, levels-room)
         before (suc (suc (suc j))) i w = omega arith
 
-    pub no_room : (labels' : List ℕ) (q : Put) → PutOf tree labels labels' q → q ≡ P.Short → ReadsWords text had (lent tokens actions operands levels labels') (Err (F.TableShort 3))
-    no_room labels' q p f = row8_labels labels' (subst (PutOf tree labels labels') f p)
-
-    module _ (tokens' actions' operands' levels' labels' : List ℕ) (m : ℕ) (p : PutOf tree labels labels' (P.Labels m))
+    module _ (tokens' actions' operands' levels' labels' : List ℕ) (m : ℕ) (p : PutOf tree labels labels' (Some m))
         (w : Writes text s log actions operands levels actions' operands' levels') (t : tokens' ≡ take (length s) s ++ drop (length s) tokens) where
       full : Filled tree actions operands levels actions' operands' levels'
       full =
@@ -150,10 +142,3 @@ module _ (text s log tokens actions operands levels labels : List ℕ) (r : Logg
             };
             counts = λ i. record { tokens = n i; actions = counts.actions i; operands = counts.operands i; levels = counts.levels i; labels = p.0 i };
           }
-
-    pub accepted_put : (tokens' actions' operands' levels' labels' : List ℕ) (m : ℕ) (q : Put) → PutOf tree labels labels' q → q ≡ P.Labels m
-        → Writes text s log actions operands levels actions' operands' levels' → tokens' ≡ take (length s) s ++ drop (length s) tokens
-        → ReadsWords text had (lent tokens' actions' operands' levels' labels')
-        (Ok (record { tokens = length s; actions = c.actions; operands = c.operands; levels = c.levels; labels = m }))
-    accepted_put tokens' actions' operands' levels' labels' m q p f w t =
-        accepted-all tokens' actions' operands' levels' labels' m (subst (PutOf tree labels labels') f p) w t

@@ -1,54 +1,12 @@
 -- Row 8. Assumes nothing.
 use mathlib.Core.Path.{◌≡◌, refl}
-use mathlib.Core.Bool.{Bool, true, false, cond}
 use mathlib.Core.List.{List, [], ◌∷◌}
 use Prim.Native.Nat.{ℕ, zero, suc, ◌≤◌, ◌<◌}
-use native.Mathlib.Nat.{not-suc-le-zero, le_of_suc-le-suc}
+use native.Mathlib.Nat.{not-suc-le-zero}
 use native.Mathlib.Omega.{arith}
-use lib.Dec.{ltb}
-use lib.ListN.{length, get_or}
-use borrow.Author.Tests.{ltb-true, ltb-false, lt-ltb, le-ltb}
-use Rattle.handover.specs.Scratch.{lowest_short}
-
-abbrev ShortAt : List ℕ → List ℕ → ℕ → Type 0
-ShortAt ps es k = get_or ps k 0 < get_or es k 0
-
--- it is short, and none before it is
-pub record Lowest (ps es : List ℕ) (k : ℕ) : Type 0 where
-  pub short : ShortAt ps es k
-  pub lowest : (j : ℕ) → j < k → ¬ ShortAt ps es j
-
-module _ (p e : ℕ) (ps es : List ℕ) where
-  first : p < e → Lowest (p ∷ ps) (e ∷ es) 0
-  first h = record { short = h; lowest = λ j g. absurd (not-suc-le-zero g) }
-
-  later : e ≤ p → (k : ℕ) → Lowest ps es k → Lowest (p ∷ ps) (e ∷ es) (suc k)
-  later h k l = record { short = l.short; lowest = before }
-    where
-      before : (j : ℕ) → j < suc k → ¬ ShortAt (p ∷ ps) (e ∷ es) j
-      before zero g s = omega (arith, h, s)
-      before (suc j) g s = l.lowest j (le_of_suc-le-suc g) s
-
-module _ (p e : ℕ) (ps es : List ℕ) (k : ℕ) where
-  next : (t : Bool) → ltb p e ≡ t → (k < length ps → Lowest ps es k) → cond t 0 (suc k) < suc (length ps) → Lowest (p ∷ ps) (e ∷ es) (cond t 0 (suc k))
-  next true q f g = first p e ps es (ltb-true p e q)
-  next false q f g = later p e ps es (ltb-false p e q) k (f (le_of_suc-le-suc g))
-
-  nowhere : (t : Bool) → ltb p e ≡ t → (length ps ≤ k → (j : ℕ) → ¬ ShortAt ps es j) → suc (length ps) ≤ cond t 0 (suc k) → (j : ℕ) → ¬ ShortAt (p ∷ ps) (e ∷ es) j
-  nowhere true q f g j s = not-suc-le-zero g
-  nowhere false q f g zero s = omega (arith, ltb-false p e q, s)
-  nowhere false q f g (suc j) s = f (le_of_suc-le-suc g) j s
-
-pub found : (ps es : List ℕ) → length ps ≡ length es → lowest_short ps es < length ps → Lowest ps es (lowest_short ps es)
-found [] es n h = absurd (not-suc-le-zero h)
-found (p ∷ ps) [] n h = absurd (omega (arith, n))
-found (p ∷ ps) (e ∷ es) n h = next p e ps es (lowest_short ps es) (ltb p e) refl (found ps es (omega (arith, n))) h
-
-pub none : (ps es : List ℕ) → length ps ≡ length es → length ps ≤ lowest_short ps es → (k : ℕ) → ¬ ShortAt ps es k
-none [] [] n h k s = omega (arith, s)
-none [] (e ∷ es) n h k s = omega (arith, n)
-none (p ∷ ps) [] n h k s = omega (arith, n)
-none (p ∷ ps) (e ∷ es) n h k s = nowhere p e ps es (lowest_short ps es) (ltb p e) refl (none ps es (omega (arith, n))) h k s
+use lib.ListN.{get_or}
+use Rattle.std.specs.Prelude.{Some, None}
+use Rattle.handover.specs.Scratch.{ShortAt, Lowest, ShortOf}
 
 -- a table more changes nothing for those before it
 module _ (a b c d e f g h : ℕ) where
@@ -73,19 +31,34 @@ module _ (a b c d e f g h : ℕ) where
 
 -- `short_table`, row by row
 module _ (a b c e f g : ℕ) where
-  abbrev lowest : ℕ
-  lowest = lowest_short (a ∷ b ∷ c ∷ []) (e ∷ f ∷ g ∷ [])
+  abbrev ps : List ℕ
+  ps = a ∷ b ∷ c ∷ []
 
-  pub short₀ : a < e → 0 ≡ lowest
-  short₀ i = simp (lt-ltb a e i)
+  abbrev es : List ℕ
+  es = e ∷ f ∷ g ∷ []
+
+  pub short₀ : a < e → ShortOf ps es (Some 0)
+  short₀ i = (omega arith, record { short = i; lowest = λ j g. absurd (not-suc-le-zero g) })
 
   module _ (i : e ≤ a) where
-    pub short₁ : b < f → 1 ≡ lowest
-    short₁ j = simp (le-ltb a e i, lt-ltb b f j)
+    pub short₁ : b < f → ShortOf ps es (Some 1)
+    short₁ j = (omega arith, record { short = j; lowest = before })
+      where
+        before : (n : ℕ) → n < 1 → ¬ ShortAt ps es n
+        before zero l s = omega (arith, i, s)
+        before (suc n) l s = absurd (omega arith)
 
     module _ (j : f ≤ b) where
-      pub short₂ : c < g → 2 ≡ lowest
-      short₂ k = simp (le-ltb a e i, le-ltb b f j, lt-ltb c g k)
+      pub short₂ : c < g → ShortOf ps es (Some 2)
+      short₂ k = (omega arith, record { short = k; lowest = before })
+        where
+          before : (n : ℕ) → n < 2 → ¬ ShortAt ps es n
+          before zero l s = omega (arith, i, s)
+          before (suc zero) l s = omega (arith, j, s)
+          before (suc (suc n)) l s = absurd (omega arith)
 
-      pub short₃ : g ≤ c → 3 ≡ lowest
-      short₃ k = simp (le-ltb a e i, le-ltb b f j, le-ltb c g k)
+      pub none-short : g ≤ c → ShortOf ps es None
+      none-short k zero s = omega (arith, i, s)
+      none-short k (suc zero) s = omega (arith, j, s)
+      none-short k (suc (suc zero)) s = omega (arith, k, s)
+      none-short k (suc (suc (suc n))) s = omega (arith, s)

@@ -14,6 +14,7 @@ use Rattle.grammar.specs.Nets.{Net, Nets}
 use Rattle.grammar.specs.Refusals.{Answers}
 use Rattle.reading.specs.Tables.{front, action_words, operand_words, level_words, label_entry_word}
 use Rattle.handover.specs.declared.Counts.{Counts}
+use Rattle.handover.specs.declared.Tables as D
 
 -- what reading answers
 abbrev pub Reading : Type 0
@@ -30,9 +31,25 @@ pub record Tables (L : Type 0) : Type 0 where
 abbrev pub lent : {L : Type 0} → List ℕ → List ℕ → List ℕ → List ℕ → List L → Tables L
 lent tokens actions operands levels labels = record { tokens = tokens; actions = actions; operands = operands; levels = levels; labels = labels }
 
+-- what a program's tables hold
+abbrev pub held_in : {L : Type 0} → D.Tables L → Tables L
+held_in t = lent t.tokens.now t.actions.now t.operands.now t.levels.now t.labels.now
+
+-- they are still the same slices, so that their lender knows what became of them
+pub record SameSlices {L : Type 0} (t u : D.Tables L) : Type 0 where
+  pub tokens : u.tokens.ghost_name ≡ t.tokens.ghost_name
+  pub actions : u.actions.ghost_name ≡ t.actions.ghost_name
+  pub operands : u.operands.ghost_name ≡ t.operands.ghost_name
+  pub levels : u.levels.ghost_name ≡ t.levels.ghost_name
+  pub labels : u.labels.ghost_name ≡ t.labels.ghost_name
+
 -- the places of tables 0 to 3, row 8's numbers; a level takes two words
 abbrev pub places : {L : Type 0} → Tables L → List ℕ
 places x = length x.actions ∷ length x.operands ∷ level_places x.levels ∷ length x.labels ∷ []
+
+-- the same of so many places
+abbrev pub places_of : Counts → List ℕ
+places_of n = n.actions ∷ n.operands ∷ n.levels ∷ n.labels ∷ []
 
 abbrev pub counted : List Token → G.Reading → Counts
 counted ts R =

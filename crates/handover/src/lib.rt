@@ -3,12 +3,11 @@
 
 ghost use Rattle.std.specs.Prelude.{◌≡◌, [], ◌∷◌, length};
 ghost use Rattle.reading.specs.Told.{Logged};
-ghost use Rattle.handover.specs.Reading.{ReadsWords, lent};
-ghost use Rattle.handover.specs.Scratch.{lowest_short};
+ghost use Rattle.handover.specs.Reading.{ReadsWords, held_in, SameSlices};
+ghost use Rattle.handover.specs.Scratch.{ShortOf};
 
 use answers::Refusal;
 use counting::Count;
-use labelling::Put;
 use tables::copy_front;
 
 // How many entries each table got.
@@ -21,48 +20,49 @@ pub struct Counts {
     pub labels: usize,
 }
 
-// The lowest of tables 0 to 2 with fewer places than entries; 3 if there is none. A level takes two words.
-fn short_table(c: Count, actions: usize, operands: usize, levels: usize) -> usize
-    ensures { result ≡ lowest_short (actions ∷ operands ∷ levels ∷ []) (c.actions ∷ c.operands ∷ c.levels ∷ []) }
-{
-    if actions < c.actions {
-        return 0;
-    }
-    if operands < c.operands {
-        return 1;
-    }
-    if levels < c.levels {
-        return 2;
-    }
-    3
+// The five tables that a reading fills. A label's entry is a word, or a struct.
+#[derive(Drop)]
+pub struct Tables<'a, L = u64> {
+    pub tokens: &'a mut [u64],
+    pub actions: &'a mut [u64],
+    pub operands: &'a mut [u64],
+    pub levels: &'a mut [u64],
+    pub labels: &'a mut [L],
 }
 
-// Counts the entries of a text's log, and writes them into the lent tables if all have room; else row 8, and nothing is written.
-pub fn read_log(
-    text: &[u8],
-    s: &[u64],
-    log: &[u64],
-    tokens: &mut [u64],
-    actions: &mut [u64],
-    operands: &mut [u64],
-    levels: &mut [u64],
-    labels: &mut [u64],
-) -> Result<Counts, Refusal>
-    requires { Logged text.now (length tokens.old) s.now log.now }
-    ensures { ReadsWords text.now (lent tokens.old actions.old operands.old levels.old labels.old) (lent tokens.new actions.new operands.new levels.new labels.new) result }
+// The lowest of tables 0 to 2 with fewer places than entries. A level takes two words.
+fn short_table(c: Count, actions: usize, operands: usize, levels: usize) -> Option<usize>
+    ensures { ShortOf (actions ∷ operands ∷ levels ∷ []) (c.actions ∷ c.operands ∷ c.levels ∷ []) result }
+{
+    if actions < c.actions {
+        return Some(0);
+    }
+    if operands < c.operands {
+        return Some(1);
+    }
+    if levels < c.levels {
+        return Some(2);
+    }
+    None
+}
+
+// Counts the entries of a text's log, and writes them into the tables if all have room; else row 8, and nothing is written.
+pub fn read_log(text: &[u8], s: &[u64], log: &[u64], tables: &mut Tables) -> Result<Counts, Refusal>
+    requires { Logged text.now (length tables.old.tokens.now) s.now log.now }
+    ensures reads { ReadsWords text.now (held_in tables.old) (held_in tables.new) result }
+    ensures same_slices { SameSlices tables.old tables.new }
 {
     let c = counting::count_log(log);
-    let short = short_table(c, actions.len(), operands.len(), levels.len() / 2);
-    if short < 3 {
-        return Err(Refusal::TableShort(short));
+    let level_places = tables.levels.len() / 2;
+    if let Some(k) = short_table(c, tables.actions.len(), tables.operands.len(), level_places) {
+        return Err(Refusal::TableShort(k));
     }
-    let put = labelling::put_labels(text, s, log, c.labels, c.levels, labels);
-    let Put::Labels(m) = put else {
+    let Some(m) = labelling::put_labels(text, s, log, c.labels, c.levels, tables.labels) else {
         return Err(Refusal::TableShort(3));
     };
-    writing::write_tables(text, s, log, actions, operands, levels);
+    writing::write_tables(text, s, log, tables.actions, tables.operands, tables.levels);
     let n = s.len();
-    copy_front(s, n, tokens);
+    copy_front(s, n, tables.tokens);
     Ok(Counts {
         tokens: n,
         actions: c.actions,

@@ -24,7 +24,7 @@ use Rattle.grammar.proofs.Theorems.{halves}
 use Rattle.entries.specs.Entries.{level_places}
 use Rattle.reading.specs.Tables.{front, label_entry_word}
 use Rattle.handover.specs.declared.Counts.{Counts}
-use Rattle.handover.specs.Reading.{Reading, Tables, places, lent, Accepts, Reads, ReadsFor, ReadsWords}
+use Rattle.handover.specs.Reading.{Reading, Tables, places, places_of, lent, Accepts, Reads, ReadsFor, ReadsWords}
 use Rattle.as2_pcode.proofs.Handed.{lexed, read}
 use Rattle.as2_pcode.proofs.Kept.{numbered-length}
 use Rattle.held.specs.Held.{AmpleTokens, AmpleEntries, Ample}
@@ -202,27 +202,27 @@ pub cut-part : {A : Type 0} (t : List A) (n : ℕ) (y : List A) → Part (take n
 cut-part t n y = record { rest = drop n t; before = sym (take-append-drop n t); after = refl }
 
 -- held tables h, of which n places are read into
-module _ (text : List ℕ) (room a o l b : ℕ) (h y : Tables ℕ) (n : Counts) (am : Ample (length text) h)
-    (et : n.tokens ≡ min room (length h.tokens)) (ea : n.actions ≡ min a (length h.actions)) (eo : n.operands ≡ min o (length h.operands))
-    (el : n.levels ≡ min l (level_places h.levels)) (eb : n.labels ≡ min b (length h.labels)) where
+module _ (text : List ℕ) (p : Counts) (h y : Tables ℕ) (n : Counts) (am : Ample (length text) h)
+    (et : n.tokens ≡ min p.tokens (length h.tokens)) (ea : n.actions ≡ min p.actions (length h.actions)) (eo : n.operands ≡ min p.operands (length h.operands))
+    (el : n.levels ≡ min p.levels (level_places h.levels)) (eb : n.labels ≡ min p.labels (length h.labels)) where
   abbrev E : ℕ → Type 0
   E = AmpleEntries (length text)
 
   pub held_cut : (r : Reading)
       → ReadsWords text (lent (take n.tokens h.tokens) (take n.actions h.actions) (take n.operands h.operands) (take (2 * n.levels) h.levels) (take n.labels h.labels)) y r
-      → ReadsFor label_entry_word room (a ∷ o ∷ l ∷ b ∷ []) text h
+      → ReadsFor label_entry_word p.tokens (places_of p) text h
       (lent (y.tokens ++ drop n.tokens h.tokens) (y.actions ++ drop n.actions h.actions) (y.operands ++ drop n.operands h.operands) (y.levels ++ drop (2 * n.levels) h.levels) (y.labels ++ drop n.labels h.labels)) r
   held_cut =
-      cut label_entry_word text room (a ∷ o ∷ l ∷ b ∷ []) _ y h _ (record {
+      cut label_entry_word text p.tokens (places_of p) _ y h _ (record {
         tokens = cut-part h.tokens n.tokens y.tokens;
         actions = cut-part h.actions n.actions y.actions;
         operands = cut-part h.operands n.operands y.operands;
         levels = cut-part h.levels (2 * n.levels) y.levels;
         labels = cut-part h.labels n.labels y.labels;
       })
-      (cut_serves h.tokens n.tokens room et (AmpleTokens (length text)) am.tokens)
+      (cut_serves h.tokens n.tokens p.tokens et (AmpleTokens (length text)) am.tokens)
       (all_serve (length text)
-      (cut_serves h.actions n.actions a ea E am.actions)
-      (cut_serves h.operands n.operands o eo E am.operands)
-      (levels_serve h.levels n.levels l el E am.levels)
-      (cut_serves h.labels n.labels b eb E am.labels))
+      (cut_serves h.actions n.actions p.actions ea E am.actions)
+      (cut_serves h.operands n.operands p.operands eo E am.operands)
+      (levels_serve h.levels n.levels p.levels el E am.levels)
+      (cut_serves h.labels n.labels p.labels eb E am.labels))

@@ -1,5 +1,4 @@
 -- What an accepted reading puts into each table: how many words, and that they have a place. Assumes nothing.
-use Rattle.std.specs.Prelude.{Ok, Err}
 use mathlib.Core.Path.{◌≡◌, sym, ap, ◌∙◌}
 use mathlib.Core.List.{List, map}
 use Prim.Native.Nat.{ℕ, ◌*◌, ◌≤◌, ◌<◌}
@@ -7,7 +6,6 @@ use native.Mathlib.Omega.{arith}
 use lib.ListN.{length, drop, get_or, length-map, length-append}
 use Rattle.answers.specs.Answers.{accepted}
 use Rattle.tokens.specs.Tokens.{word_of}
-use Rattle.lexer.proofs.Theorems as lexer
 use Rattle.grammar.specs.Reading as G
 use Rattle.grammar.specs.Refusals.{entries, Answers, fits}
 use Rattle.entries.specs.Entries.{action_word}
@@ -15,9 +13,8 @@ use Rattle.reading.specs.Tables.{front, action_entries, level_entries, action_wo
 use Rattle.reading.proofs.Entries.{entry_count, level-count}
 use Rattle.reading.proofs.LevelSets.{words-length}
 use Rattle.handover.specs.declared.Counts.{Counts}
-use Rattle.handover.specs.Reading.{Reading, Tables, filled, Accepts, ReadsFor}
+use Rattle.handover.specs.Reading.{Tables, filled, Accepts}
 use Rattle.as2_pcode.proofs.Handed.{from-text, nets-long}
-use Rattle.held.specs.Held.{Holds, token_count}
 
 not_short : {room : ℕ} {ps text : List ℕ} {Q : G.Reading} → Answers room ps text (accepted Q) → (k : ℕ) → get_or (entries Q) k 0 ≤ get_or ps k 0
 not_short (fits e w f) k = omega (arith, f k)
@@ -85,19 +82,8 @@ module _ {L : Type 0} {entry : G.Label → L} {room : ℕ} {ps text : List ℕ} 
   pub labels_fit : c.labels ≤ get_or ps 3 0
   labels_fit = omega (arith, ap (λ (k : Counts). k.labels) a.counts, not_short a.answer 3)
 
-  few-tokens : c.tokens ≤ length text
-  few-tokens = omega (arith, ap (λ (k : Counts). k.tokens) a.counts, lexer.few text a.tokens (from-text a).made)
-
 -- the same reading, handed out into other tables
 abbrev pub refilled : {L L' : Type 0} {entry : G.Label → L} {entry' : G.Label → L'} {room : ℕ} {ps text : List ℕ} {x y : Tables L} {x' y' : Tables L'} {c : Counts}
     (a : Accepts entry room ps text x y c) → y' ≡ filled entry' a.tokens a.reading a.nets x' → Accepts entry' room ps text x' y' c
 refilled a e =
     record { tokens = a.tokens; reading = a.reading; nets = a.nets; lexed = a.lexed; answer = a.answer; net = a.net; tables = e; counts = a.counts }
-
--- a text has no more tokens than bytes
-pub no_more : {room : ℕ} {ps text : List ℕ} {h : Tables ℕ} {r : Reading} → Holds room ps text h r → (n : ℕ) → n ≡ token_count r → length text < n → ⊥
-no_more {room} {ps} {text} {h} {r} w n e g = omega (arith, few-read r w.reads, e, g)
-  where
-    few-read : (q : Reading) → ReadsFor label_entry_word room ps text w.before h q → token_count q ≤ length text
-    few-read (Ok c) a = few-tokens a
-    few-read (Err f) a = omega arith

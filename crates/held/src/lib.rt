@@ -3,84 +3,74 @@
 // `hand_held`.
 #![tactic(auto)]
 
-ghost use Rattle.std.specs.Prelude.{◌≡◌, [], ◌∷◌, min, length};
-ghost use Rattle.handover.specs.Reading.{lent};
-ghost use Rattle.held.specs.Held.{Ample, Holds, token_count, Handable, handed};
+ghost use Rattle.std.specs.Prelude.{◌≡◌, length};
+ghost use Rattle.handover.specs.Reading.{lent, held_in, places_of, SameSlices};
+ghost use Rattle.held.specs.Held.{Ample, Holds, Handable, handed};
 
 use answers::Refusal;
-use as2_pcode::Counts;
+use as2_pcode::{Counts, Tables};
 use tables::copy_front;
 
-// The lesser of two numbers.
-pub fn least(a: usize, b: usize) -> usize
-    ensures { result ≡ min a b }
-{
-    if a < b { a } else { b }
-}
-
-// Reads a text into held tables, which have places for whatever it can have, with the answer for tables of so many places: each
-// is cut to as many, so that rows 5 and 8 come out right. A level takes two words.
-pub fn read_held(
+// The slices stand for `Tables` here: the checker does not cover parts of a struct's slices that are lent at once.
+fn read_slices(
     text: &[u8],
-    tokens: usize,
-    actions: usize,
-    operands: usize,
-    levels: usize,
-    labels: usize,
-    held_tokens: &mut [u64],
-    held_actions: &mut [u64],
-    held_operands: &mut [u64],
-    held_levels: &mut [u64],
-    held_labels: &mut [u64],
-) -> Result<Counts, Refusal>
-    requires { Ample (length text.now) (lent held_tokens.old held_actions.old held_operands.old held_levels.old held_labels.old) }
-    ensures { Holds tokens (actions ∷ operands ∷ levels ∷ labels ∷ []) text.now (lent held_tokens.new held_actions.new held_operands.new held_levels.new held_labels.new) result }
-{
-    let t = least(tokens, held_tokens.len());
-    let a = least(actions, held_actions.len());
-    let o = least(operands, held_operands.len());
-    let l = least(levels, held_levels.len() / 2);
-    let b = least(labels, held_labels.len());
-    as2_pcode::read(
-        text,
-        &mut held_tokens[..t],
-        &mut held_actions[..a],
-        &mut held_operands[..o],
-        &mut held_levels[..2 * l],
-        &mut held_labels[..b],
-    )
-}
-
-// Hands that many entries of the held tables over to the lent ones.
-pub fn hand_held(
-    counts: Counts,
-    held_tokens: &[u64],
-    held_actions: &[u64],
-    held_operands: &[u64],
-    held_levels: &[u64],
-    held_labels: &[u64],
+    places: Counts,
     tokens: &mut [u64],
     actions: &mut [u64],
     operands: &mut [u64],
     levels: &mut [u64],
     labels: &mut [u64],
-)
-    requires { Handable counts (lent held_tokens.now held_actions.now held_operands.now held_levels.now held_labels.now) (lent tokens.old actions.old operands.old levels.old labels.old) }
-    ensures { lent tokens.new actions.new operands.new levels.new labels.new ≡ handed counts (lent held_tokens.now held_actions.now held_operands.now held_levels.now held_labels.now) (lent tokens.old actions.old operands.old levels.old labels.old) }
+) -> Result<Counts, Refusal>
+    requires { Ample (length text.now) (lent tokens.old actions.old operands.old levels.old labels.old) }
+    ensures { Holds places.tokens (places_of places) text.now (lent tokens.new actions.new operands.new levels.new labels.new) result }
 {
-    copy_front(held_tokens, counts.tokens, tokens);
-    copy_front(held_actions, counts.actions, actions);
-    copy_front(held_operands, counts.operands, operands);
-    copy_front(held_levels, 2 * counts.levels, levels);
-    copy_front(held_labels, counts.labels, labels);
+    let t = places.tokens.min(tokens.len());
+    let a = places.actions.min(actions.len());
+    let o = places.operands.min(operands.len());
+    let l = places.levels.min(levels.len() / 2);
+    let b = places.labels.min(labels.len());
+    let (tokens, _) = tokens.split_at_mut(t);
+    let (actions, _) = actions.split_at_mut(a);
+    let (operands, _) = operands.split_at_mut(o);
+    let (levels, _) = levels.split_at_mut(2 * l);
+    let (labels, _) = labels.split_at_mut(b);
+    let mut cut = Tables {
+        tokens,
+        actions,
+        operands,
+        levels,
+        labels,
+    };
+    as2_pcode::read(text, &mut cut)
 }
 
-// How many tokens were read.
-pub fn token_count(reading: Result<Counts, Refusal>) -> usize
-    ensures { result ≡ token_count reading }
+// Reads a text into held tables, which have places for whatever it can have, with the answer for tables of so many places: each
+// is cut to as many, so that rows 5 and 8 come out right. A level takes two words.
+pub fn read_held(text: &[u8], places: Counts, held: &mut Tables) -> Result<Counts, Refusal>
+    requires { Ample (length text.now) (held_in held.old) }
+    ensures holds { Holds places.tokens (places_of places) text.now (held_in held.new) result }
+    ensures same_slices { SameSlices held.old held.new }
 {
-    match reading {
-        Ok(counts) => counts.tokens,
-        Err(_) => 0,
-    }
+    read_slices(
+        text,
+        places,
+        held.tokens,
+        held.actions,
+        held.operands,
+        held.levels,
+        held.labels,
+    )
+}
+
+// Hands that many entries of the held tables over to the lent ones.
+pub fn hand_held(counts: Counts, held: &Tables, tables: &mut Tables)
+    requires { Handable counts (held_in held.now) (held_in tables.old) }
+    ensures hands_over { held_in tables.new ≡ handed counts (held_in held.now) (held_in tables.old) }
+    ensures same_slices { SameSlices tables.old tables.new }
+{
+    copy_front(held.tokens, counts.tokens, tables.tokens);
+    copy_front(held.actions, counts.actions, tables.actions);
+    copy_front(held.operands, counts.operands, tables.operands);
+    copy_front(held.levels, 2 * counts.levels, tables.levels);
+    copy_front(held.labels, counts.labels, tables.labels);
 }

@@ -1,5 +1,5 @@
 -- `handover::short_table` meets its contract. Assumes nothing.
-use Rattle.handover.proofs.Rows.{short₀, short₁, short₂, short₃}
+use Rattle.handover.proofs.Rows.{short₀, short₁, short₂, none-short}
 use Rattle.handover.proofs.short_table.Goals as goal
 
 pub returns-then-actions-c : goal.returns-then-actions-c
@@ -16,4 +16,4 @@ returns-then-levels-c c =
 
 pub returns : goal.returns
 returns c =
-    let a = c.args in let t = a.c in short₃ a.actions a.operands a.levels t.actions t.operands t.levels c.if-actions-c.false c.if-operands-c.false c.if-levels-c.false
+    let a = c.args in let t = a.c in none-short a.actions a.operands a.levels t.actions t.operands t.levels c.if-actions-c.false c.if-operands-c.false c.if-levels-c.false

@@ -1,5 +1,4 @@
 -- `held::hand_held` meets its contract. Assumes nothing.
-use borrow.Author.Rules.{rules}
 use native.Mathlib.Omega.{arith}
 use Rattle.handover.specs.Reading.{lent}
 use Rattle.held.proofs.hand_held.Goals as goal
@@ -8,8 +7,8 @@ pub overflow_mul-counts : goal.overflow_mul-counts
 overflow_mul-counts c =
     omega (arith, c.requires.few-levels)
 
-pub returns : goal.returns
-returns c = λ i. lent
+pub returns-clause-hands_over : goal.returns-clause-hands_over
+returns-clause-hands_over c = λ i. lent
     (c.copy_front.ensures i)
     (c.copy_front-2.ensures i)
     (c.copy_front-3.ensures i)
