@@ -9,7 +9,7 @@ use Prim.Native.Nat.{ℕ, zero, suc, ◌+◌, ◌*◌, ◌≤◌, ◌<◌, min}
 use native.Mathlib.Nat.{eq-or-lt_of_le}
 use native.Mathlib.Omega.{arith}
 use lib.Dec.{ltb}
-use lib.ListN.{length, take, drop, get_or, take-append-drop, length-take}
+use lib.ListN.{length, drop, get_or}
 use lib.Seq.{drop-append-le}
 use borrow.Author.Tests.{ltb-false, le-ltb}
 use Rattle.answers.specs.Answers.{Answer, accepted, refused}
@@ -24,7 +24,7 @@ use Rattle.grammar.proofs.Theorems.{halves}
 use Rattle.entries.specs.Entries.{level_places}
 use Rattle.reading.specs.Tables.{front, label_entry_word}
 use Rattle.handover.specs.declared.Counts.{Counts}
-use Rattle.handover.specs.Reading.{Reading, Tables, places, places_of, lent, Accepts, Reads, ReadsFor, ReadsWords}
+use Rattle.handover.specs.Reading.{Reading, Tables, places, places_of, Accepts, Reads, ReadsFor, ReadsWords}
 use Rattle.as2_pcode.proofs.Handed.{lexed, read}
 use Rattle.as2_pcode.proofs.Kept.{numbered-length}
 use Rattle.held.specs.Held.{AmpleTokens, AmpleEntries, Ample}
@@ -174,55 +174,27 @@ module _ {L : Type 0} (entry : G.Label → L) (text : List ℕ) (room : ℕ) (ps
 -- ---- tables that are cut to the places of lent ones
 
 -- the least of the lent places and the held ones serves for the lent ones, if the held ones are enough
-serves_for : (E : ℕ → Type 0) (m room w : ℕ) → m ≡ min room w → E w → Serves (E m) m room
+pub serves_for : (E : ℕ → Type 0) (m room w : ℕ) → m ≡ min room w → E w → Serves (E m) m room
 serves_for E m room w e g = by (eq-or-lt_of_le {n = m} {m = room} (omega (arith, e)))
   where
     by : (m ≡ room) ⊎ (m < room) → Serves (E m) m room
     by (inl k) = inl k
     by (inr k) = inr (omega (arith, k), subst E (omega (arith, e, k)) g)
 
-module _ {A : Type 0} (t : List A) (n room : ℕ) (e : n ≡ min room (length t)) where
-  pub cut-long : n ≡ length (take n t)
-  cut-long = omega (arith, length-take n t, e)
-
-  pub cut_serves : (E : ℕ → Type 0) → E (length t) → Serves (E (length (take n t))) (length (take n t)) room
-  cut_serves E g = serves_for E (length (take n t)) room (length t) (sym cut-long ∙ e) g
-
--- a level takes two words
-module _ (t : List ℕ) (n room : ℕ) (e : n ≡ min room (level_places t)) where
-  pub levels-long : 2 * n ≡ length (take (2 * n) t)
-  levels-long = omega (arith, length-take (2 * n) t, e)
-
-  levels_serve : (E : ℕ → Type 0) → E (level_places t) → Serves (E (level_places (take (2 * n) t))) (level_places (take (2 * n) t)) room
-  levels_serve E g =
-      let h : level_places (take (2 * n) t) ≡ n = omega (arith, levels-long) in
-      serves_for E (level_places (take (2 * n) t)) room (level_places t) (h ∙ e) g
-
-pub cut-part : {A : Type 0} (t : List A) (n : ℕ) (y : List A) → Part (take n t) y t (y ++ drop n t)
-cut-part t n y = record { rest = drop n t; before = sym (take-append-drop n t); after = refl }
-
--- held tables h, of which n places are read into
-module _ (text : List ℕ) (p : Counts) (h y : Tables ℕ) (n : Counts) (am : Ample (length text) h)
-    (et : n.tokens ≡ min p.tokens (length h.tokens)) (ea : n.actions ≡ min p.actions (length h.actions)) (eo : n.operands ≡ min p.operands (length h.operands))
-    (el : n.levels ≡ min p.levels (level_places h.levels)) (eb : n.labels ≡ min p.labels (length h.labels)) where
+-- parts p of the held tables x
+module _ (text : List ℕ) (n : Counts) (p y x z : Tables ℕ) (t : Parts p y x z) (am : Ample (length text) x)
+    (et : length p.tokens ≡ min n.tokens (length x.tokens)) (ea : length p.actions ≡ min n.actions (length x.actions))
+    (eo : length p.operands ≡ min n.operands (length x.operands)) (el : level_places p.levels ≡ min n.levels (level_places x.levels))
+    (eb : length p.labels ≡ min n.labels (length x.labels)) where
   abbrev E : ℕ → Type 0
   E = AmpleEntries (length text)
 
-  pub held_cut : (r : Reading)
-      → ReadsWords text (lent (take n.tokens h.tokens) (take n.actions h.actions) (take n.operands h.operands) (take (2 * n.levels) h.levels) (take n.labels h.labels)) y r
-      → ReadsFor label_entry_word p.tokens (places_of p) text h
-      (lent (y.tokens ++ drop n.tokens h.tokens) (y.actions ++ drop n.actions h.actions) (y.operands ++ drop n.operands h.operands) (y.levels ++ drop (2 * n.levels) h.levels) (y.labels ++ drop n.labels h.labels)) r
+  pub held_cut : (r : Reading) → ReadsWords text p y r → ReadsFor label_entry_word n.tokens (places_of n) text x z r
   held_cut =
-      cut label_entry_word text p.tokens (places_of p) _ y h _ (record {
-        tokens = cut-part h.tokens n.tokens y.tokens;
-        actions = cut-part h.actions n.actions y.actions;
-        operands = cut-part h.operands n.operands y.operands;
-        levels = cut-part h.levels (2 * n.levels) y.levels;
-        labels = cut-part h.labels n.labels y.labels;
-      })
-      (cut_serves h.tokens n.tokens p.tokens et (AmpleTokens (length text)) am.tokens)
+      cut label_entry_word text n.tokens (places_of n) p y x z t
+      (serves_for (AmpleTokens (length text)) (length p.tokens) n.tokens (length x.tokens) et am.tokens)
       (all_serve (length text)
-      (cut_serves h.actions n.actions p.actions ea E am.actions)
-      (cut_serves h.operands n.operands p.operands eo E am.operands)
-      (levels_serve h.levels n.levels p.levels el E am.levels)
-      (cut_serves h.labels n.labels p.labels eb E am.labels))
+      (serves_for E (length p.actions) n.actions (length x.actions) ea am.actions)
+      (serves_for E (length p.operands) n.operands (length x.operands) eo am.operands)
+      (serves_for E (level_places p.levels) n.levels (level_places x.levels) el am.levels)
+      (serves_for E (length p.labels) n.labels (length x.labels) eb am.labels))

@@ -1,7 +1,7 @@
 -- What an accepted reading puts into each table: how many words, and that they have a place. Assumes nothing.
 use mathlib.Core.Path.{◌≡◌, sym, ap, ◌∙◌}
 use mathlib.Core.List.{List, map}
-use Prim.Native.Nat.{ℕ, ◌*◌, ◌≤◌, ◌<◌}
+use Prim.Native.Nat.{ℕ, ◌*◌, ◌≤◌}
 use native.Mathlib.Omega.{arith}
 use lib.ListN.{length, drop, get_or, length-map, length-append}
 use Rattle.answers.specs.Answers.{accepted}
@@ -9,7 +9,7 @@ use Rattle.tokens.specs.Tokens.{word_of}
 use Rattle.grammar.specs.Reading as G
 use Rattle.grammar.specs.Refusals.{entries, Answers, fits}
 use Rattle.entries.specs.Entries.{action_word}
-use Rattle.reading.specs.Tables.{front, action_entries, level_entries, action_words, operand_entry_word, operand_words, level_words, label_entry_word}
+use Rattle.reading.specs.Tables.{front, action_entries, level_entries, action_words, operand_entry_word, operand_words, level_words}
 use Rattle.reading.proofs.Entries.{entry_count, level-count}
 use Rattle.reading.proofs.LevelSets.{words-length}
 use Rattle.handover.specs.declared.Counts.{Counts}
