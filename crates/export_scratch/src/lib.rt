@@ -1,103 +1,45 @@
 // Export over scratch of the reading's size.
 #![tactic(auto)]
 
-ghost use Rattle.std.specs.Prelude.{◌+◌, ◌≤◌, length};
-ghost use Rattle.exporting.specs.Passes.{Held, TextPassed};
+ghost use Rattle.std.specs.Prelude.{◌+◌, ◌≤◌, ◌<◌, length};
+ghost use Rattle.exporting.specs.Passes.{HeldIn, PassedIn};
 
 use action_records::Style;
-use exporting::{Passed, export_tables};
+use answers::Refusal;
+use exporting::export_tables;
+use level_trees::Source;
 
-fn export_512(
-    text: &[u8],
-    s: &[u64],
-    actions: &[u64],
-    operands: &[u64],
-    levels: &[u64],
-    labels: &[u64],
+// Over scratch for A actions, for I places of the index of labels and for P records. Not inlined, since a small text is not to pay for
+// the frame of a large one (docs/DECISIONS.md, 67).
+#[inline(never)]
+fn export_over<const A: usize, const I: usize, const P: usize>(
+    source: Source,
     style: Style,
     out: &mut [u8],
-) -> Passed
-    requires held { Held text.now s.now actions.now operands.now levels.now labels.now }
-    requires labels_len_bound { length actions.now + (length levels.now + length labels.now) ≤ 512 }
-    ensures { TextPassed style text.now s.now actions.now operands.now levels.now labels.now out.old out.new result }
+) -> Result<usize, Refusal>
+    requires held { HeldIn source }
+    requires for_aims { (length source.actions.now ≤ A) × (A ≤ 131072) }
+    requires for_index { (length source.labels.now < I) × (I ≤ 131072) }
+    requires for_place { (length source.actions.now + length source.levels.now ≤ P) × (P ≤ 131072) }
+    ensures { PassedIn style source.entry out.old out.new result }
 {
-    let mut aims = [0u64; 512];
-    let mut index = [0u64; 513];
-    let mut place = [0u64; 512];
-    export_tables(
-        text, s, actions, operands, levels, labels, style, &mut aims, &mut index, &mut place, out,
-    )
-}
-
-fn export_4096(
-    text: &[u8],
-    s: &[u64],
-    actions: &[u64],
-    operands: &[u64],
-    levels: &[u64],
-    labels: &[u64],
-    style: Style,
-    out: &mut [u8],
-) -> Passed
-    requires held { Held text.now s.now actions.now operands.now levels.now labels.now }
-    requires labels_len_bound { length actions.now + (length levels.now + length labels.now) ≤ 4096 }
-    ensures { TextPassed style text.now s.now actions.now operands.now levels.now labels.now out.old out.new result }
-{
-    let mut aims = [0u64; 4096];
-    let mut index = [0u64; 4097];
-    let mut place = [0u64; 4096];
-    export_tables(
-        text, s, actions, operands, levels, labels, style, &mut aims, &mut index, &mut place, out,
-    )
-}
-
-// A function that calls itself has a frame of its own, which a small text does not pay for (docs/DECISIONS.md, 67). No reading leads to such
-// a call: it has no more than 32,769 actions.
-fn export_65536(
-    text: &[u8],
-    s: &[u64],
-    actions: &[u64],
-    operands: &[u64],
-    levels: &[u64],
-    labels: &[u64],
-    style: Style,
-    out: &mut [u8],
-) -> Passed
-    requires { Held text.now s.now actions.now operands.now levels.now labels.now }
-    ensures { TextPassed style text.now s.now actions.now operands.now levels.now labels.now out.old out.new result }
-{
-    let mut aims = [0u64; 32769];
-    let mut index = [0u64; 32770];
-    let mut place = [0u64; 98307];
-    let passed = export_tables(
-        text, s, actions, operands, levels, labels, style, &mut aims, &mut index, &mut place, out,
-    );
-    if 32769 < actions.len() {
-        return export_65536(text, s, actions, operands, levels, labels, style, out);
-    }
-    passed
+    let mut aims = [0u64; A];
+    let mut index = [0u64; I];
+    let mut place = [0u64; P];
+    export_tables(source, style, &mut aims, &mut index, &mut place, out)
 }
 
 // The bytes of the text that was read into these tables, which hold the reading and nothing more.
-pub fn export_reading(
-    text: &[u8],
-    s: &[u64],
-    actions: &[u64],
-    operands: &[u64],
-    levels: &[u64],
-    labels: &[u64],
-    style: Style,
-    out: &mut [u8],
-) -> Passed
-    requires { Held text.now s.now actions.now operands.now levels.now labels.now }
-    ensures { TextPassed style text.now s.now actions.now operands.now levels.now labels.now out.old out.new result }
+pub fn export_reading(source: Source, style: Style, out: &mut [u8]) -> Result<usize, Refusal>
+    requires { HeldIn source }
+    ensures { PassedIn style source.entry out.old out.new result }
 {
-    let entries = actions.len() + levels.len() + labels.len();
+    let entries = source.actions.len() + source.levels.len() + source.labels.len();
     if entries <= 512 {
-        return export_512(text, s, actions, operands, levels, labels, style, out);
+        return export_over::<512, 513, 512>(source, style, out);
     }
     if entries <= 4096 {
-        return export_4096(text, s, actions, operands, levels, labels, style, out);
+        return export_over::<4096, 4097, 4096>(source, style, out);
     }
-    export_65536(text, s, actions, operands, levels, labels, style, out)
+    export_over::<32769, 32770, 98307>(source, style, out)
 }

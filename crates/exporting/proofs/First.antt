@@ -1,60 +1,64 @@
 -- The first action with a fault, found by number and found in the list of actions. Assumes nothing.
-use mathlib.Core.Path.{◌≡◌, refl, ap, sym, ◌∙◌}
-use mathlib.Core.Bool.{Bool, true, false, cond}
+use mathlib.Core.Path.{◌≡◌, refl, ap, sym, subst, ◌∙◌}
 use mathlib.Core.List.{List, [], ◌∷◌}
 use mathlib.Core.Option.{Option, none, some}
 use Prim.Native.Nat.{ℕ, zero, suc, ◌+◌, ◌<◌}
 use native.Mathlib.Omega.{arith}
-use lib.Dec.{eqb}
 use lib.ListN.{length}
-use borrow.Author.Tests.{eq-eqb, ne_eqb}
-use Rattle.answers.specs.Answers.{Answer}
+use Rattle.std.specs.Prelude.{Result, Ok, Err}
+use Rattle.answers.specs.declared.Refusal.{Refusal}
+use Rattle.answers.specs.Answers.{Answer, refused, number_of, place_of, refusal}
 use Rattle.movies.specs.Sites.{Site, or_fault, first_fault}
-use Rattle.first_pass.specs.declared.Fault.{Fault}
-use Rattle.first_pass.specs.First.{first_from}
+use Rattle.first_pass.specs.First.{or_next, first_from}
 
--- a fault's number, if it has one
-abbrev pub told_by : ℕ → Option ℕ
-told_by zero = none
-told_by (suc n) = some (suc n)
+-- a fault's number, if there is one
+abbrev pub told_by : Result (Unit {0}) Refusal → Option ℕ
+told_by (Ok u) = none
+told_by (Err r) = some (number_of r)
 
-abbrev pub or_first : {A : Type 0} → Fault → Answer A → Answer A
-or_first r rest = or_fault (told_by r.number) r.action rest
+-- it is told of action a
+abbrev pub ToldOf : ℕ → Result (Unit {0}) Refusal → Type 0
+ToldOf a (Ok u) = Unit {0}
+ToldOf a (Err r) = place_of r ≡ a
 
--- the numbers f from a on tell the faults g of a list
-abbrev pub Tells : (ℕ → ℕ) → (Site → Option ℕ) → ℕ → List Site → Type 0
+abbrev pub or_first : {A : Type 0} → Result (Unit {0}) Refusal → Answer A → Answer A
+or_first (Ok u) rest = rest
+or_first (Err r) rest = refusal r
+
+-- the faults f from a on are the faults g of a list
+abbrev pub Tells : (ℕ → Result (Unit {0}) Refusal) → (Site → Option ℕ) → ℕ → List Site → Type 0
 Tells f g a [] = Unit {0}
-Tells f g a (s ∷ ss) = (g s ≡ told_by (f a)) × Tells f g (suc a) ss
+Tells f g a (s ∷ ss) = ((g s ≡ told_by (f a)) × ToldOf a (f a)) × Tells f g (suc a) ss
 
-pub first-is : {A : Type 0} (f : ℕ → ℕ) (g : Site → Option ℕ) (a : ℕ) (ss : List Site) (rest : Answer A) → Tells f g a ss
+pub first-is : {A : Type 0} (f : ℕ → Result (Unit {0}) Refusal) (g : Site → Option ℕ) (a : ℕ) (ss : List Site) (rest : Answer A) → Tells f g a ss
     → first_fault g a ss rest ≡ or_first (first_from f a (length ss)) rest
 first-is f g a [] rest h = refl
-first-is f g a (s ∷ ss) rest (h, hs) =
+first-is f g a (s ∷ ss) rest ((h, p), hs) =
     ap (λ (t : Option ℕ). or_fault t a (first_fault g (suc a) ss rest)) h
     ∙ ap (or_fault (told_by (f a)) a) (first-is f g (suc a) ss rest hs)
-    ∙ by (f a)
+    ∙ by (f a) p
   where
-    r : Fault
+    r : Result (Unit {0}) Refusal
     r = first_from f (suc a) (length ss)
 
-    by : (n : ℕ) → or_fault (told_by n) a (or_first r rest) ≡ or_first (cond (eqb n 0) r (record { number = n; action = a })) rest
-    by zero = refl
-    by (suc n) = ap (λ (b : Bool). or_first (cond b r (record { number = suc n; action = a })) rest) (sym (ne_eqb (suc n) 0 (λ e. omega arith)))
+    by : (q : Result (Unit {0}) Refusal) → ToldOf a q → or_fault (told_by q) a (or_first r rest) ≡ or_first (or_next q r) rest
+    by (Ok u) e = refl
+    by (Err q) e = ap (refused (number_of q)) (sym e)
+
+abbrev IsRefused : Result (Unit {0}) Refusal → Type 0
+IsRefused (Ok u) = ⊥
+IsRefused (Err r) = Unit {0}
 
 -- none has a fault
-pub none_first : (f : ℕ → ℕ) (a n : ℕ) → (first_from f a n).number ≡ 0 → (i : ℕ) → i < n → f (a + i) ≡ 0
+pub none_first : (f : ℕ → Result (Unit {0}) Refusal) (a n : ℕ) → first_from f a n ≡ Ok tt → (i : ℕ) → i < n → f (a + i) ≡ Ok tt
 none_first f a zero e i h = absurd (omega arith)
-none_first f a (suc n) e i h = by (f a) refl (λ t. none_first f (suc a) n t) i h
+none_first f a (suc n) e i h = by (f a) refl e (λ t. none_first f (suc a) n t) i h
   where
     z : a + 0 ≡ a
     z = omega arith
 
-    chosen : (b : Bool) → eqb (f a) 0 ≡ b → (cond b (first_from f (suc a) n) (record { number = f a; action = a })).number ≡ 0
-    chosen b q = sym (ap (λ (t : Bool). (cond t (first_from f (suc a) n) (record { number = f a; action = a })).number) q) ∙ e
-
-    by : (k : ℕ) → f a ≡ k → ((first_from f (suc a) n).number ≡ 0 → (j : ℕ) → j < n → f (suc a + j) ≡ 0) → (j : ℕ) → j < suc n → f (a + j) ≡ 0
-    by zero q rest zero g = ap f z ∙ q
-    by zero q rest (suc j) g =
-        let w : suc a + j ≡ a + suc j = omega arith in
-        sym (ap f w) ∙ rest (chosen true (eq-eqb (f a) 0 q)) j (omega arith)
-    by (suc k) q rest j g = absurd (omega (arith, q, chosen false (ne_eqb (f a) 0 (λ w. omega (arith, q, w)))))
+    by : (r : Result (Unit {0}) Refusal) → f a ≡ r → or_next r (first_from f (suc a) n) ≡ Ok tt
+        → (first_from f (suc a) n ≡ Ok tt → (j : ℕ) → j < n → f (suc a + j) ≡ Ok tt) → (j : ℕ) → j < suc n → f (a + j) ≡ Ok tt
+    by (Ok u) q k rest zero g = ap f z ∙ q
+    by (Ok u) q k rest (suc j) g = let w : suc a + j ≡ a + suc j = omega arith in sym (ap f w) ∙ rest k j (omega arith)
+    by (Err r) q k rest j g = absurd (subst IsRefused k tt)

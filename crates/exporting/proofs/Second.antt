@@ -7,13 +7,13 @@ use native.Mathlib.Omega.{arith}
 use lib.Dec.{ltb}
 use lib.ListN.{length}
 use borrow.Author.Tests.{lt-ltb, le-ltb}
+use Rattle.std.specs.Prelude.{Ok, Err}
 use Rattle.answers.specs.declared.Refusal.TheVariants as F
 use Rattle.entries.specs.Entries.{level_in}
 use Rattle.action_records.specs.declared.Style.{Style}
 use Rattle.writer.specs.declared.At.{At}
 use Rattle.filling.specs.Pieces.{Tree, size, nobody, late}
 use Rattle.writer.specs.Writing.{Tables, AskedLevel, LevelGiven, LevelWritten}
-use Rattle.exporting.specs.declared.Passed.TheVariants as P
 use Rattle.exporting.specs.Passes.{second_of, TreeGiven, TreePassed}
 
 -- the scratch may hold anything
@@ -33,36 +33,36 @@ module _ (T : Tables) (y : Style) (place : List ℕ) (n : ℕ) (told : n ≡ (le
 
   -- into no output: m is what was measured
   module _ (none none' : List ℕ) (m : At) (measured : LevelWritten T y n 0 1 place none none' m) (o : List ℕ) where
-    pub large : m.late < nobody → TreePassed T y place o o (P.Refused (F.Uncodable m.late))
+    pub large : m.late < nobody → TreePassed T y place o o (Err (F.Uncodable m.late))
     large h l k =
         let w = (measured l (asked k)).late in
         record {
           answer =
-              ap (λ (i : ℕ). P.Refused (F.Uncodable i)) w
-              ∙ sym (ap (λ (b : Bool). cond b (P.Refused (F.Uncodable (late 0 l))) (cond (ltb (length o) (size l)) (P.Refused (F.OutputShort (size l))) (P.Written (size l)))) (lt-ltb (late 0 l) nobody (omega (arith, w))));
+              ap (λ (i : ℕ). Err (F.Uncodable i)) w
+              ∙ sym (ap (λ (b : Bool). cond b (Err (F.Uncodable (late 0 l))) (cond (ltb (length o) (size l)) (Err (F.OutputShort (size l))) (Ok (size l)))) (lt-ltb (late 0 l) nobody (omega (arith, w))));
           output = refl;
         }
 
     module _ (h : nobody ≤ m.late) where
       second_is : (l : Tree) → AskedLevel T y l n 0 1 place → (b : Bool) → ltb (length o) (size l) ≡ b
-          → cond b (P.Refused (F.OutputShort (size l))) (P.Written (size l)) ≡ second_of l (length o)
+          → cond b (Err (F.OutputShort (size l))) (Ok (size l)) ≡ second_of l (length o)
       second_is l k b e =
-          sym (ap (λ (t : Bool). cond t (P.Refused (F.Uncodable (late 0 l))) (cond (ltb (length o) (size l)) (P.Refused (F.OutputShort (size l))) (P.Written (size l)))) (le-ltb (late 0 l) nobody (omega (arith, (measured l k).late)))
-          ∙ ap (λ (t : Bool). cond t (P.Refused (F.OutputShort (size l))) (P.Written (size l))) e)
+          sym (ap (λ (t : Bool). cond t (Err (F.Uncodable (late 0 l))) (cond (ltb (length o) (size l)) (Err (F.OutputShort (size l))) (Ok (size l)))) (le-ltb (late 0 l) nobody (omega (arith, (measured l k).late)))
+          ∙ ap (λ (t : Bool). cond t (Err (F.OutputShort (size l))) (Ok (size l))) e)
 
-      pub short : length o < m.byte → TreePassed T y place o o (P.Refused (F.OutputShort m.byte))
+      pub short : length o < m.byte → TreePassed T y place o o (Err (F.OutputShort m.byte))
       short g l k =
           let w = (measured l (asked k)).byte in
           record {
-            answer = ap (λ (i : ℕ). P.Refused (F.OutputShort i)) w ∙ second_is l (asked k) true (lt-ltb (length o) (size l) (omega (arith, w)));
+            answer = ap (λ (i : ℕ). Err (F.OutputShort i)) w ∙ second_is l (asked k) true (lt-ltb (length o) (size l) (omega (arith, w)));
             output = refl;
           }
 
       pub written : m.byte ≤ length o → (place' o' : List ℕ) (r : At) → length place' ≡ length place → LevelWritten T y n 0 1 place' o o' r
-          → TreePassed T y place o o' (P.Written m.byte)
+          → TreePassed T y place o o' (Ok m.byte)
       written g place' o' r e wrote l k =
           let w = (measured l (asked k)).byte in
           record {
-            answer = ap (λ (i : ℕ). P.Written i) w ∙ second_is l (asked k) false (le-ltb (length o) (size l) (omega (arith, w)));
+            answer = ap (λ (i : ℕ). Ok i) w ∙ second_is l (asked k) false (le-ltb (length o) (size l) (omega (arith, w)));
             output = (wrote l (other_place e (asked k))).bytes;
           }

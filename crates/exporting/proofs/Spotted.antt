@@ -8,6 +8,9 @@ use native.Mathlib.Omega.{arith}
 use lib.Dec.{eqb}
 use lib.ListN.{length, drop, take, get_or}
 use lib.Seq.{take-length}
+use Rattle.std.specs.Prelude.{Result, Ok, Err}
+use Rattle.answers.specs.declared.Refusal.{Refusal}
+use Rattle.answers.specs.declared.Refusal.TheVariants as F
 use Rattle.shapes.specs.declared.Shape.{Shape}
 use Rattle.shapes.specs.Shapes.{shape_of}
 use Rattle.lexemes.specs.Lexemes.{Lexeme, raw}
@@ -34,7 +37,7 @@ use Rattle.pieces.proofs.Spots.{Spot, spots, acted_at, acted_are, site_of, Right
 use Rattle.first_pass.specs.Faults.{fault_of, aim_for, fault_for}
 use Rattle.exporting.proofs.Entries.{before, entry_of, inside}
 use Rattle.exporting.proofs.Tabled.{none as noTables, tree, fits, its_forms, acts, entry_told, operands-told, labels-counted}
-use Rattle.exporting.proofs.First.{told_by, Tells}
+use Rattle.exporting.proofs.First.{told_by, ToldOf, Tells}
 
 -- ---- lists
 
@@ -128,10 +131,24 @@ module _ {room : ℕ} {ps text s actions operands levels labels : List ℕ} {c :
         ∙ aim-by right_here.form refl refl
 
     -- its fault is the one that the definition gives it
-    told_of : (b h : Bool) → cond b (some 10) (cond h none (some 11)) ≡ told_by (cond b 10 (cond h 0 11))
+    abbrev fault : Bool → Bool → Result (Unit {0}) Refusal
+    fault b h = cond b (Err (F.NoLabel i)) (cond h (Ok tt) (Err (F.Uncodable i)))
+
+    told_of : (b h : Bool) → cond b (some 10) (cond h none (some 11)) ≡ told_by (fault b h)
     told_of true h = refl
     told_of false true = refl
     told_of false false = refl
+
+    placed_of : (b h : Bool) → ToldOf i (fault b h)
+    placed_of true h = refl
+    placed_of false true = tt
+    placed_of false false = refl
+
+    placed-here : (y : Style) → ToldOf i (fault_for text s actions operands labels y i)
+    unfolding fault_for fault_of
+    placed-here y =
+        let v = action_of (get_or actions i 0) in
+        placed_of (is_jump (shape_of v.name) && eqb (aim_for text s actions operands labels i) 0) (head_holds y v.name (operands_at text s operands v.first v.count))
 
     fault-here : (y : Style) → fault_at y (site_of y p) ≡ told_by (fault_for text s actions operands labels y i)
     unfolding fault_for fault_of
@@ -140,13 +157,13 @@ module _ {room : ℕ} {ps text s actions operands levels labels : List ℕ} {c :
         let n = p.name in
         early_is y l p.items p.position n p.operands p.blocks right_here.form
         ∙ told_of (is_jump (shape_of n) && eqb (aim_of (shape_of n) l p.operands) 0) (head_holds y n p.operands)
-        ∙ ap (λ (k : ℕ). told_by (cond (is_jump (shape_of n) && eqb k 0) 10 (cond (head_holds y n p.operands) 0 11))) (sym aim-here)
-        ∙ ap (λ (os : List Lexeme). told_by (cond (is_jump (shape_of n) && eqb (aim_for text s actions operands labels i) 0) 10 (cond (head_holds y n os) 0 11))) (sym operands-here)
-        ∙ ap (λ (v : Action). told_by (fault_of y text s operands v (aim_for text s actions operands labels i))) (sym entry_here)
+        ∙ ap (λ (k : ℕ). told_by (fault (is_jump (shape_of n) && eqb k 0) (head_holds y n p.operands))) (sym aim-here)
+        ∙ ap (λ (os : List Lexeme). told_by (fault (is_jump (shape_of n) && eqb (aim_for text s actions operands labels i) 0) (head_holds y n os))) (sym operands-here)
+        ∙ ap (λ (v : Action). told_by (fault_of y text s operands i v (aim_for text s actions operands labels i))) (sym entry_here)
 
   tells_from : (y : Style) (i : ℕ) (ps' : List Spot) → drop i (spots (tree a)) ≡ ps' → Tells (fault_for text s actions operands labels y) (fault_at y) i (map (site_of y) ps')
   tells_from y i [] e = tt
-  tells_from y i (p ∷ r) e = (fault-here i p r e y, tells_from y (suc i) r (one_more (spots (tree a)) r p i e))
+  tells_from y i (p ∷ r) e = ((fault-here i p r e y, placed-here i p r e y), tells_from y (suc i) r (one_more (spots (tree a)) r p i e))
 
   pub tells : (y : Style) → Tells (fault_for text s actions operands labels y) (fault_at y) 0 (map (site_of y) (spots (tree a)))
   tells y = tells_from y 0 (spots (tree a)) refl

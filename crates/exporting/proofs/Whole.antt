@@ -8,7 +8,9 @@ use native.Mathlib.Omega.{arith}
 use lib.Dec.{leb}
 use lib.ListN.{length, drop, get_or, length-map}
 use borrow.Author.Tests.{ltb-true}
-use Rattle.answers.specs.Answers.{Answer, refused}
+use Rattle.std.specs.Prelude.{Result, Ok, Err}
+use Rattle.answers.specs.declared.Refusal.{Refusal}
+use Rattle.answers.specs.Answers.{Answer, refusal}
 use Rattle.grammar.specs.Reading.{opened_of, own_labels}
 use Rattle.entries.specs.declared.Action.{Action}
 use Rattle.entries.specs.Entries.{level_in}
@@ -17,7 +19,7 @@ use Rattle.reading.proofs.Runs.{Every}
 use Rattle.handover.specs.declared.Counts.{Counts}
 use Rattle.handover.specs.Reading.{lent, Accepts}
 use Rattle.movies.specs.Meaning.{meaning_in, meaning_of}
-use Rattle.movies.specs.Sites.{Site, sites, or_fault, first_fault}
+use Rattle.movies.specs.Sites.{Site, sites, first_fault}
 use Rattle.action_records.specs.declared.Style.{Style}
 use Rattle.action_records.specs.Codes.{listed}
 use Rattle.action_records.specs.Fields.{low_first, all_bytes, all, is16, holds}
@@ -44,9 +46,9 @@ use Rattle.exporting.proofs.Spotted.{map-drop, every_at, entry_here, operands-he
 
 -- ---- no action has a fault
 
-without : (f : ℕ → ℕ) (g : Site → Option ℕ) (a : ℕ) (ss : List Site) → Tells f g a ss → ((i : ℕ) → i < length ss → f (a + i) ≡ 0) → Every (λ (s : Site). g s ≡ none) ss
+without : (f : ℕ → Result (Unit {0}) Refusal) (g : Site → Option ℕ) (a : ℕ) (ss : List Site) → Tells f g a ss → ((i : ℕ) → i < length ss → f (a + i) ≡ Ok tt) → Every (λ (s : Site). g s ≡ none) ss
 without f g a [] h k = tt
-without f g a (s ∷ ss) (h, hs) k =
+without f g a (s ∷ ss) ((h, p), hs) k =
     let z : a + 0 ≡ a = omega arith in (
       h ∙ ap told_by (sym (ap f z) ∙ k 0 (omega arith)),
       without f g (suc a) ss hs (λ i q. let w : suc a + i ≡ a + suc i = omega arith in ap f w ∙ k (suc i) (omega arith)),
@@ -105,7 +107,7 @@ module _ (y : Style) where
 
 module _ {room : ℕ} {ps text s actions operands levels labels : List ℕ} {c : Counts}
     (a : Accepts label_entry_word room ps text Tabled.none (lent s actions operands levels labels) c) (y : Style) where
-  abbrev f : ℕ → ℕ
+  abbrev f : ℕ → Result (Unit {0}) Refusal
   f = fault_for text s actions operands labels y
 
   abbrev pub rest : List ℕ → Type 0
@@ -124,15 +126,15 @@ module _ {room : ℕ} {ps text s actions operands levels labels : List ℕ} {c :
       ∙ first-is f (fault_at y) 0 (map (site_of y) (spots (tree a))) rest (tells a y)
       ∙ ap (λ (n : ℕ). or_first (first_from f 0 n) rest) sites-counted
 
-  pub refused-first : (n : ℕ) → (first_from f 0 (length actions)).number ≡ suc n → (k : ℕ) → exported y k (tree a) ≡ refused (suc n) (first_from f 0 (length actions)).action
+  pub refused-first : (r : Refusal) → first_from f 0 (length actions) ≡ Err r → (k : ℕ) → exported y k (tree a) ≡ refusal r
   unfolding exported
-  refused-first n e k =
+  refused-first r e k =
       let m = meaning_of (tree a) in
       let rest = first_fault (late_fault_at y) 0 (sites m) (in_room k (movie_bytes y m)) in
-      first_found rest ∙ ap (λ (v : ℕ). or_fault (told_by v) (first_from f 0 (length actions)).action rest) e
+      first_found rest ∙ ap (λ (v : Result (Unit {0}) Refusal). or_first v rest) e
 
   -- it found nothing
-  module _ (clear : (first_from f 0 (length actions)).number ≡ 0) where
+  module _ (clear : first_from f 0 (length actions) ≡ Ok tt) where
     none_faulty : Every (λ (v : Site). fault_at y v ≡ none) (map (site_of y) (spots (tree a)))
     none_faulty =
         without f (fault_at y) 0 (map (site_of y) (spots (tree a))) (tells a y)
@@ -204,7 +206,7 @@ module _ {room : ℕ} {ps text s actions operands levels labels : List ℕ} {c :
         let m = meaning_of (tree a) in
         let rest = first_fault (late_fault_at y) 0 (sites m) (in_room k (movie_bytes y m)) in
         first_found rest
-        ∙ ap (λ (v : ℕ). or_fault (told_by v) (first_from f 0 (length actions)).action rest) clear
+        ∙ ap (λ (v : Result (Unit {0}) Refusal). or_first v rest) clear
         ∙ late_is y (tree a) (in_room k (movie_bytes y m)) (its_forms a) all_labelled
         (omega (arith, Holding.action-count y (own_labels 0 0 [] (tree a)) (tree a), Holding.spots_count (tree a), few a, spots_counted, actions-counted a, (sound a).short))
         ∙ ap (λ (b : List ℕ). or_refused (late 0 (tree_of y (tree a))) (in_room k b)) (sym bytes_right)

@@ -1,43 +1,39 @@
 // Export over the tables of a reading: two passes of faults, then the bytes.
 #![tactic(auto)]
 
-ghost use Rattle.writer.specs.Writing.{tables};
-ghost use Rattle.exporting.specs.Passes.{TreeGiven, TreePassed, Held, Roomy, TextPassed};
+ghost use Rattle.exporting.specs.Passes.{tables_of, TreeGiven, TreePassed, HeldIn, Roomy, PassedIn};
 
 use action_records::Style;
 use answers::Refusal;
 use first_pass::first_pass;
-use level_trees::actions_of;
+use level_trees::{Source, actions_of};
 use writer::write_level;
-
-// How many bytes were written, or a refusal: then none was.
-#[derive(Clone, Copy)]
-pub enum Passed {
-    Written(usize),
-    Refused(Refusal),
-}
 
 // The second pass of faults, into no output: sizes and offsets are known only when every record has its place. If they fit, and the
 // bytes do, they are written.
 fn second_pass(
-    text: &[u8],
-    s: &[u64],
-    actions: &[u64],
-    operands: &[u64],
-    levels: &[u64],
+    source: Source,
     aims: &[u64],
     style: Style,
     place: &mut [u64],
     out: &mut [u8],
-) -> Passed
-    requires { TreeGiven (tables text.now s.now actions.now operands.now levels.now aims.now) style place.old }
-    ensures { TreePassed (tables text.now s.now actions.now operands.now levels.now aims.now) style place.old out.old out.new result }
+) -> Result<usize, Refusal>
+    requires { TreeGiven (tables_of source aims.now) style place.old }
+    ensures { TreePassed (tables_of source.entry aims.now) style place.old out.old out.new result }
 {
+    let Source {
+        text,
+        tokens,
+        actions,
+        operands,
+        levels,
+        ..
+    } = source;
     let n = actions_of(levels, 0);
     let mut nothing = [0u8; 0];
     let measured = write_level(
         text,
-        s,
+        tokens,
         actions,
         operands,
         levels,
@@ -52,41 +48,30 @@ fn second_pass(
     let late = measured.late;
     let size = measured.byte;
     if late < 1048576 {
-        return Passed::Refused(Refusal::Uncodable(late));
+        return Err(Refusal::Uncodable(late));
     }
     if out.len() < size {
-        return Passed::Refused(Refusal::OutputShort(size));
+        return Err(Refusal::OutputShort(size));
     }
     write_level(
-        text, s, actions, operands, levels, aims, style, n, 0, 1, place, out,
+        text, tokens, actions, operands, levels, aims, style, n, 0, 1, place, out,
     );
-    Passed::Written(size)
+    Ok(size)
 }
 
-// The bytes of a text's movie, over the tables of its reading: 10 and 11, then 12; else they are written.
+// The bytes of a text's movie, over the tables of its reading, and how many: 10 and 11, then 12; else they are written. A refusal writes none.
 pub fn export_tables(
-    text: &[u8],
-    s: &[u64],
-    actions: &[u64],
-    operands: &[u64],
-    levels: &[u64],
-    labels: &[u64],
+    source: Source,
     style: Style,
     aims: &mut [u64],
     index: &mut [u64],
     place: &mut [u64],
     out: &mut [u8],
-) -> Passed
-    requires held { Held text.now s.now actions.now operands.now levels.now labels.now }
-    requires roomy { Roomy actions.now levels.now labels.now aims.old index.old place.old }
-    ensures { TextPassed style text.now s.now actions.now operands.now levels.now labels.now out.old out.new result }
+) -> Result<usize, Refusal>
+    requires held { HeldIn source }
+    requires roomy { Roomy source.actions.now source.levels.now source.labels.now aims.old index.old place.old }
+    ensures { PassedIn style source.entry out.old out.new result }
 {
-    let fault = first_pass(text, s, actions, operands, labels, style, aims, index);
-    if fault.number == 10 {
-        return Passed::Refused(Refusal::NoLabel(fault.action));
-    }
-    if fault.number != 0 {
-        return Passed::Refused(Refusal::Uncodable(fault.action));
-    }
-    second_pass(text, s, actions, operands, levels, aims, style, place, out)
+    first_pass(source, style, aims, index)?;
+    second_pass(source, aims, style, place, out)
 }

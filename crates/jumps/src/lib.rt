@@ -7,8 +7,10 @@ ghost use Rattle.jumps.specs.Aims.{name_at, aim_in, aim_at};
 
 use entries::{Label, action_in, label_of, label_word, operand_in};
 use labels::{Merging, look_up};
+use level_trees::Source;
 
 // One more than the position of a label, or 0; and the index after the walk.
+// No Option: the number is the word that stands in the lent table of aims, where 0 is nowhere (fixed memory).
 #[derive(Clone, Copy)]
 pub struct Aim {
     pub aim: usize,
@@ -16,27 +18,25 @@ pub struct Aim {
 }
 
 // Where a jump of that level goes, whose operand is that token. Labels of other levels are no targets.
-pub fn aim_of(
-    text: &[u8],
-    s: &[u64],
-    labels: &[u64],
-    t: Merging,
-    index: &mut [u64],
-    level: usize,
-    token: usize,
-) -> Aim
-    requires indexed_2 { Indexed text.now s.now t.seed t.labels labels.now index.old }
+pub fn aim_of(source: Source, t: Merging, index: &mut [u64], level: usize, token: usize) -> Aim
+    requires indexed_2 { Indexed source.text.now source.tokens.now t.seed t.labels source.labels.now index.old }
     requires level_bound { (level < 16777216) × (token < 1048576) }
-    ensures aimed { result.aim ≡ aim_in text.now s.now level (name_at text.now s.now token) (take t.labels labels.now) }
+    ensures aimed { result.aim ≡ aim_in source.entry.text.now source.entry.tokens.now level (name_at source.entry.text.now source.entry.tokens.now token) (take t.labels source.entry.labels.now) }
     ensures kept { result.merging.labels ≡ t.labels }
-    ensures indexed { Indexed text.now s.now result.merging.seed result.merging.labels labels.now index.new }
+    ensures indexed { Indexed source.entry.text.now source.entry.tokens.now result.merging.seed result.merging.labels source.entry.labels.now index.new }
 {
+    let Source {
+        text,
+        tokens,
+        labels,
+        ..
+    } = source;
     let named = Label {
         level,
         token,
         position: 0,
     };
-    let found = look_up(text, s, labels, t, index, label_word(named));
+    let found = look_up(text, tokens, labels, t, index, label_word(named));
     let k = found.place;
     let merging = found.merging;
     if k < t.labels {
@@ -47,22 +47,13 @@ pub fn aim_of(
 }
 
 // Where action i goes, an If or a Jump.
-pub fn aim_at(
-    text: &[u8],
-    s: &[u64],
-    actions: &[u64],
-    operands: &[u64],
-    labels: &[u64],
-    t: Merging,
-    index: &mut [u64],
-    i: usize,
-) -> Aim
-    requires { Indexed text.now s.now t.seed t.labels labels.now index.old }
-    ensures aimed { result.aim ≡ aim_at text.now s.now actions.now operands.now i (take t.labels labels.now) }
+pub fn aim_at(source: Source, t: Merging, index: &mut [u64], i: usize) -> Aim
+    requires { Indexed source.text.now source.tokens.now t.seed t.labels source.labels.now index.old }
+    ensures aimed { result.aim ≡ aim_at source.entry.text.now source.entry.tokens.now source.entry.actions.now source.entry.operands.now i (take t.labels source.entry.labels.now) }
     ensures kept { result.merging.labels ≡ t.labels }
-    ensures indexed { Indexed text.now s.now result.merging.seed result.merging.labels labels.now index.new }
+    ensures indexed { Indexed source.entry.text.now source.entry.tokens.now result.merging.seed result.merging.labels source.entry.labels.now index.new }
 {
-    let a = action_in(actions, i);
-    let token = operand_in(operands, a.first).token;
-    aim_of(text, s, labels, t, index, a.level, token)
+    let a = action_in(source.actions, i);
+    let token = operand_in(source.operands, a.first).token;
+    aim_of(source, t, index, a.level, token)
 }

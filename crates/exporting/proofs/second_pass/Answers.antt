@@ -1,6 +1,6 @@
 -- `exporting::second_pass` meets its contract. Assumes nothing.
 use mathlib.Core.List.{[]}
-use Rattle.writer.specs.Writing.{tables}
+use Rattle.exporting.specs.Passes.{tables_of}
 use Rattle.exporting.proofs.Second.{given, given-again, large, short, written}
 use Rattle.exporting.proofs.second_pass.Goals as goal
 
@@ -9,7 +9,7 @@ write_level-measured-requires c =
     let p = c in
     let a = p.args in
     let n = c.actions_of-n in
-    given (tables a.text.now a.s.now a.actions.now a.operands.now a.levels.now a.aims.now) a.style a.place.now n.result n.ensures p.requires
+    given (tables_of a.source a.aims.now) a.style a.place.now n.result n.ensures p.requires
 
 pub returns-then-late-lt1048576 : goal.returns-then-late-lt1048576
 returns-then-late-lt1048576 c =
@@ -17,7 +17,7 @@ returns-then-late-lt1048576 c =
     let a = p.args in
     let n = c.actions_of-n in
     let w = c.write_level-measured in
-    large (tables a.text.now a.s.now a.actions.now a.operands.now a.levels.now a.aims.now) a.style a.place.now n.result n.ensures [] w.new.out w.result w.ensures a.out.now c.if-late-lt1048576.true
+    large (tables_of a.source a.aims.now) a.style a.place.now n.result n.ensures [] w.new.out w.result w.ensures a.out.now c.if-late-lt1048576.true
 
 pub returns-then-out-size : goal.returns-then-out-size
 returns-then-out-size c =
@@ -25,7 +25,7 @@ returns-then-out-size c =
     let a = p.args in
     let n = c.actions_of-n in
     let w = c.write_level-measured in
-    short (tables a.text.now a.s.now a.actions.now a.operands.now a.levels.now a.aims.now) a.style a.place.now n.result n.ensures [] w.new.out w.result w.ensures a.out.now c.if-late-lt1048576.false c.if-out-size.true
+    short (tables_of a.source a.aims.now) a.style a.place.now n.result n.ensures [] w.new.out w.result w.ensures a.out.now c.if-late-lt1048576.false c.if-out-size.true
 
 pub write_level-requires : goal.write_level-requires
 write_level-requires c =
@@ -33,7 +33,7 @@ write_level-requires c =
     let a = p.args in
     let n = c.actions_of-n in
     let w = c.write_level-measured in
-    given-again (tables a.text.now a.s.now a.actions.now a.operands.now a.levels.now a.aims.now) a.style a.place.now n.result n.ensures p.requires w.new.place w.auto.place
+    given-again (tables_of a.source a.aims.now) a.style a.place.now n.result n.ensures p.requires w.new.place w.auto.place
 
 pub returns : goal.returns
 returns c =
@@ -42,5 +42,5 @@ returns c =
     let n = c.actions_of-n in
     let w = c.write_level-measured in
     let v = c.write_level in
-    written (tables a.text.now a.s.now a.actions.now a.operands.now a.levels.now a.aims.now) a.style a.place.now n.result n.ensures [] w.new.out w.result w.ensures a.out.now c.if-late-lt1048576.false c.if-out-size.false
+    written (tables_of a.source a.aims.now) a.style a.place.now n.result n.ensures [] w.new.out w.result w.ensures a.out.now c.if-late-lt1048576.false c.if-out-size.false
     w.new.place v.new.out v.result w.auto.place v.ensures

@@ -4,6 +4,7 @@ use mathlib.Core.List.{List}
 use Prim.Native.Nat.{ℕ}
 use native.Mathlib.Omega.{arith}
 use lib.Seq.{take-length}
+use Rattle.std.proofs.lemmas.Result.{err_from_is_err_and}
 use Rattle.entries.specs.declared.Action.{Action}
 use Rattle.labels.specs.Index.{Distinct}
 use Rattle.first_pass.proofs.Turns.{begins, place-there, found_first, goes_on, none_first, all-aimed}
@@ -13,7 +14,7 @@ pub index_labels-t-requires : goal.index_labels-t-requires
 index_labels-t-requires c =
     let p = c in
     let a = p.args in
-    record { m_in_bounds = (omega arith, p.requires.actions_in_bounds.1); distinct = subst (λ (l : List ℕ). Distinct a.text.now a.s.now l) (sym (take-length a.labels.now)) p.requires.sound.1 }
+    record { m_in_bounds = (omega arith, p.requires.actions_in_bounds.1); distinct = subst (λ (l : List ℕ). Distinct a.source.text.now a.source.tokens.now l) (sym (take-length a.source.labels.now)) p.requires.sound.1 }
 
 pub loop-i-init : goal.loop-i-init
 loop-i-init c =
@@ -21,16 +22,10 @@ loop-i-init c =
     let a = p.args in
     let start = c.index_labels-t.new.index in
     let q = c.index_labels-t in
-    begins a.text.now a.s.now a.actions.now a.operands.now a.labels.now a.style a.aims.now start start q.result refl q.ensures.all q.ensures.indexed
+    begins a.source.text.now a.source.tokens.now a.source.actions.now a.source.operands.now a.source.labels.now a.style a.aims.now start start q.result refl q.ensures.all q.ensures.indexed
 
 pub find_aim-found-requires : goal.find_aim-found-requires
 find_aim-found-requires c = let l = c.loop-i in (l.invariant.indexed, l.invariant.all)
-
-pub offset_bounds-aims-i : goal.offset_bounds-aims-i
-offset_bounds-aims-i c =
-    let p = c in
-    let l = c.loop-i in
-    omega (arith, c.loop-i-test.true, l.invariant.long, p.requires.actions_in_bounds.0, p.well_formed.1.1.1.1.1.1.0)
 
 pub bounds-aims-i : goal.bounds-aims-i
 bounds-aims-i c =
@@ -38,30 +33,25 @@ bounds-aims-i c =
     let a = p.args in
     let start = c.index_labels-t.new.index in
     let l = c.loop-i in
-    place-there a.text.now a.s.now a.actions.now a.operands.now a.labels.now a.style a.aims.now start l.aims l.index l.t l.i l.invariant c.loop-i-test.true p.requires.actions_in_bounds.0
+    place-there a.source.text.now a.source.tokens.now a.source.actions.now a.source.operands.now a.source.labels.now a.style a.aims.now start l.aims l.index l.t l.i l.invariant c.loop-i-test.true p.requires.actions_in_bounds.0
 
-pub fault_of-number-requires : goal.fault_of-number-requires
-fault_of-number-requires c =
-    let e = c.action_in-action.ensures in
+pub fault_of-requires : goal.fault_of-requires
+fault_of-requires c =
+    let e = c.action_in.ensures in
     record { sound = c.requires.sound.0; small = record { first = omega (arith, ap (λ (x : Action). x.first) e); count = omega (arith, ap (λ (x : Action). x.count) e) } }
 
-pub returns-then-number-ne0 : goal.returns-then-number-ne0
-returns-then-number-ne0 c =
-    let p = c in
-    let a = p.args in
+pub returns-in_err-fault_of-clause-first : goal.returns-in_err-fault_of-clause-first
+returns-in_err-fault_of-clause-first c =
+    let p = err_from_is_err_and c.from_residual.result c.from_residual.ensures.1 in
+    let a = c.args in
     let start = c.index_labels-t.new.index in
     let l = c.loop-i in
     let q = c.find_aim-found in
-    let e = c.action_in-action in
-    let n = c.fault_of-number in
-    let more = c.loop-i-test.true in record {
-      first = found_first a.text.now a.s.now a.actions.now a.operands.now a.labels.now a.style a.aims.now start l.aims l.index l.t l.i l.invariant more p.requires.actions_in_bounds.0
-          e.result e.ensures q.result.aim q.ensures.aimed n.result n.ensures c.if-number-ne0.true;
-      aimed = λ z. absurd (c.if-number-ne0.true z);
-    }
-
-pub overflow_add-i : goal.overflow_add-i
-overflow_add-i c = omega (arith, c.loop-i-test.true, c.well_formed.1.1.0)
+    let e = c.action_in in
+    let n = c.fault_of in
+    rw (p.1, p.2)
+    (found_first a.source.text.now a.source.tokens.now a.source.actions.now a.source.operands.now a.source.labels.now a.style a.aims.now start l.aims l.index l.t l.i l.invariant c.loop-i-test.true c.requires.actions_in_bounds.0
+    e.result e.ensures q.result.aim q.ensures.aimed n.result n.ensures c.in_err-fault_of.field-0.0 c.in_err-fault_of.was)
 
 pub loop-i-preserved : goal.loop-i-preserved
 loop-i-preserved c =
@@ -70,11 +60,10 @@ loop-i-preserved c =
     let start = c.index_labels-t.new.index in
     let l = c.loop-i in
     let q = c.find_aim-found in
-    let e = c.action_in-action in
-    let n = c.fault_of-number in
-    let more = c.loop-i-test.true in
-    goes_on a.text.now a.s.now a.actions.now a.operands.now a.labels.now a.style a.aims.now start l.aims l.index l.t l.i l.invariant more p.requires.actions_in_bounds.0
-    e.result e.ensures q.result.aim q.ensures.aimed n.result n.ensures c.if-number-ne0.false
+    let e = c.action_in in
+    let n = c.fault_of in
+    goes_on a.source.text.now a.source.tokens.now a.source.actions.now a.source.operands.now a.source.labels.now a.style a.aims.now start l.aims l.index l.t l.i l.invariant c.loop-i-test.true p.requires.actions_in_bounds.0
+    e.result e.ensures q.result.aim q.ensures.aimed n.result n.ensures c.in_ok-fault_of.was
     q.new.index q.result.merging q.auto.index q.ensures.indexed.0 q.ensures.indexed.1
 
 pub returns : goal.returns
@@ -83,4 +72,8 @@ returns c =
     let a = p.args in
     let start = c.index_labels-t.new.index in
     let l = c.loop-i in
-    let no_more = c.loop-i-test.false in record { first = none_first a.text.now a.s.now a.actions.now a.operands.now a.labels.now a.style a.aims.now start l.aims l.index l.t l.i l.invariant no_more; aimed = λ z. all-aimed a.text.now a.s.now a.actions.now a.operands.now a.labels.now a.style a.aims.now start l.aims l.index l.t l.i l.invariant no_more }
+    let no_more = c.loop-i-test.false in
+    record {
+      first = none_first a.source.text.now a.source.tokens.now a.source.actions.now a.source.operands.now a.source.labels.now a.style a.aims.now start l.aims l.index l.t l.i l.invariant no_more;
+      aimed = all-aimed a.source.text.now a.source.tokens.now a.source.actions.now a.source.operands.now a.source.labels.now a.style a.aims.now start l.aims l.index l.t l.i l.invariant no_more;
+    }

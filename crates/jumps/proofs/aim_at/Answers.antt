@@ -1,5 +1,4 @@
 -- `jumps::aim_at` meets its contract. Assumes nothing.
-use borrow.Author.Rules.{rules}
 use mathlib.Core.Path.{ap}
 use native.Mathlib.Omega.{arith}
 use lib.ListN.{take}
@@ -23,7 +22,7 @@ returns c =
     let q = c.aim_of in
     record {
       aimed =
-          told_at a.text.now a.s.now a.actions.now a.operands.now a.i (take a.t.labels a.labels.now)
+          told_at a.source.text.now a.source.tokens.now a.source.actions.now a.source.operands.now a.i (take a.t.labels a.source.labels.now)
           c.action_in-a.ensures c.operand_in-token.ensures q.ensures.aimed;
       kept = q.ensures.kept;
       indexed = q.ensures.indexed;

@@ -1,5 +1,4 @@
 -- `jumps::aim_of` meets its contract. Assumes nothing.
-use borrow.Author.Rules.{rules}
 use mathlib.Core.Path.{ap}
 use native.Mathlib.Omega.{arith}
 use Rattle.entries.specs.declared.Label.{Label}
@@ -17,7 +16,7 @@ returns-then-k-t c =
     let q = c.look_up-found in
     record {
       aimed =
-          found a.text.now a.s.now a.level a.token p.requires.level_bound.1 a.labels.now a.t.labels p.requires.indexed_2.inside c.label_word.ensures
+          found a.source.text.now a.source.tokens.now a.level a.token p.requires.level_bound.1 a.source.labels.now a.t.labels p.requires.indexed_2.inside c.label_word.ensures
           q.result.place q.ensures.found c.if-k-t.true c.label_of-aim.ensures;
       kept = q.ensures.kept;
       indexed = q.ensures.indexed;
@@ -30,7 +29,7 @@ returns c =
     let q = c.look_up-found in
     record {
       aimed =
-          not_found a.text.now a.s.now a.level a.token p.requires.level_bound.1 a.labels.now a.t.labels p.requires.indexed_2.inside c.label_word.ensures
+          not_found a.source.text.now a.source.tokens.now a.level a.token p.requires.level_bound.1 a.source.labels.now a.t.labels p.requires.indexed_2.inside c.label_word.ensures
           q.result.place q.ensures.found c.if-k-t.false;
       kept = q.ensures.kept;
       indexed = q.ensures.indexed;

@@ -1,5 +1,0 @@
--- `export_scratch::export_65536` calls itself where no reading leads, so the measure does not matter.
-use Rattle.export_scratch.proofs.+export_65536.Given as goal
-
-abbrev pub decreases-export_65536 : goal.decreases-export_65536
-decreases-export_65536 l = 0
