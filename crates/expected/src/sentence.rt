@@ -1,7 +1,7 @@
 // The sentences: what was expected in an action, by its shape, the number of the operand and what stands there. docs/FORMAT.md lists
 // them.
 use crate::stands::Stands;
-use printing::{Stream, write_text};
+use printing::Printer;
 use shapes::Shape;
 use wanted::{Wanted, wanted_at};
 
@@ -45,32 +45,16 @@ pub enum Sentence {
 }
 
 fn has_block(shape: Shape) -> bool {
-    match shape {
-        Shape::Function | Shape::Function2 | Shape::Block | Shape::Try => true,
-        _ => false,
-    }
+    is_function(shape) || matches!(shape, Shape::Block | Shape::Try)
 }
 
 // Push and ConstantPool take any number of operands.
 fn is_list(shape: Shape) -> bool {
-    match shape {
-        Shape::Values | Shape::Strings => true,
-        _ => false,
-    }
-}
-
-fn is_nothing(w: Wanted) -> bool {
-    match w {
-        Wanted::Nothing => true,
-        _ => false,
-    }
+    matches!(shape, Shape::Values | Shape::Strings)
 }
 
 fn is_function(shape: Shape) -> bool {
-    match shape {
-        Shape::Function | Shape::Function2 => true,
-        _ => false,
-    }
+    matches!(shape, Shape::Function | Shape::Function2)
 }
 
 // Behind a closing brace, where only the end of the line can stand.
@@ -96,21 +80,20 @@ fn at_line_end(stands: Stands) -> Sentence {
 }
 
 fn at_brace(shape: Shape, stands: Stands) -> Sentence {
-    let Stands::Comma = stands else {
-        return Sentence::Brace;
-    };
-    if is_function(shape) {
-        return Sentence::BraceByCount;
+    match stands {
+        Stands::Comma if is_function(shape) => Sentence::BraceByCount,
+        Stands::Comma => Sentence::BraceNoMore,
+        _ => Sentence::Brace,
     }
-    Sentence::BraceNoMore
 }
 
 // Behind all operands of an action.
 fn at_end(shape: Shape, stands: Stands) -> Sentence {
     if has_block(shape) {
-        return at_brace(shape, stands);
+        at_brace(shape, stands)
+    } else {
+        at_line_end(stands)
     }
-    at_line_end(stands)
 }
 
 // Behind an operand of a list, or where its first could stand.
@@ -131,12 +114,9 @@ fn without_operands(shape: Shape, stands: Stands) -> Sentence {
 
 // Where a value is due, a number that is none is told by itself.
 fn at_value(w: Wanted, otherwise: Sentence, stands: Stands) -> Sentence {
-    let Wanted::Value = w else {
-        return otherwise;
-    };
-    match stands {
-        Stands::Exponent => Sentence::Exponent,
-        Stands::Digitless => Sentence::Digitless,
+    match (w, stands) {
+        (Wanted::Value, Stands::Exponent) => Sentence::Exponent,
+        (Wanted::Value, Stands::Digitless) => Sentence::Digitless,
         _ => otherwise,
     }
 }
@@ -146,14 +126,11 @@ fn behind_name(shape: Shape, given: usize, stands: Stands) -> Sentence {
     if let Stands::Colon = stands {
         return Sentence::ActionAsLabel;
     }
-    let w = wanted_at(shape, 0, given);
-    if is_nothing(w) {
-        return without_operands(shape, stands);
+    match wanted_at(shape, 0, given) {
+        Wanted::Nothing => without_operands(shape, stands),
+        w if is_list(shape) => in_list(at_value(w, Sentence::OperandOrEnd(w), stands), stands),
+        w => Sentence::Operand(w),
     }
-    if is_list(shape) {
-        return in_list(at_value(w, Sentence::OperandOrEnd(w), stands), stands);
-    }
-    Sentence::Operand(w)
 }
 
 // Where the operand of that number is due.
@@ -170,11 +147,10 @@ fn at_comma(shape: Shape, number: usize, given: usize, stands: Stands) -> Senten
     if is_list(shape) {
         return in_list(Sentence::CommaOrEnd, stands);
     }
-    let w = wanted_at(shape, number, given);
-    if is_nothing(w) {
-        return at_end(shape, stands);
+    match wanted_at(shape, number, given) {
+        Wanted::Nothing => at_end(shape, stands),
+        w => Sentence::CommaThen(w),
     }
-    Sentence::CommaThen(w)
 }
 
 // What was expected in an action: `number` is that of the operand which is due there, or whose comma is; `given` is what the operands
@@ -187,248 +163,141 @@ pub fn sentence_of(
     stands: Stands,
 ) -> Sentence {
     if is_due {
-        return at_operand(shape, number, given, stands);
+        at_operand(shape, number, given, stands)
+    } else {
+        at_comma(shape, number, given, stands)
     }
-    at_comma(shape, number, given, stands)
 }
 
 // ---- the words
 
-fn print_wanted(rt: HostRuntime, stream: Stream, w: Wanted) {
+fn words_of(w: Wanted) -> &'static str {
     match w {
-        Wanted::Nothing => write_text(rt, stream, b"nothing"),
-        Wanted::String => write_text(rt, stream, b"a string"),
-        Wanted::Value => write_text(rt, stream, b"a value"),
-        Wanted::Bool => write_text(rt, stream, b"true or false"),
-        Wanted::Flag => write_text(rt, stream, b"true or false (nine of them)"),
-        Wanted::U8 => write_text(rt, stream, b"a whole number from 0 to 255"),
-        Wanted::U16 => write_text(rt, stream, b"a whole number from 0 to 65,535"),
-        Wanted::Count => write_text(rt, stream, b"a count (a whole number up to 2,147,483,647)"),
-        Wanted::Parameter => write_text(rt, stream, b"a string (as many as the count says)"),
-        Wanted::Register => {
-            write_text(
-                rt,
-                stream,
-                b"a whole number from 0 to 255 (with a string, as often as the count says)",
-            )
-        }
-        Wanted::Label => write_text(rt, stream, b"a label's name"),
-        Wanted::Target => write_text(rt, stream, b"a string, a register or `{`"),
+        Wanted::Nothing => "nothing",
+        Wanted::String => "a string",
+        Wanted::Value => "a value",
+        Wanted::Bool => "true or false",
+        Wanted::Flag => "true or false (nine of them)",
+        Wanted::U8 => "a whole number from 0 to 255",
+        Wanted::U16 => "a whole number from 0 to 65,535",
+        Wanted::Count => "a count (a whole number up to 2,147,483,647)",
+        Wanted::Parameter => "a string (as many as the count says)",
+        Wanted::Register =>
+            "a whole number from 0 to 255 (with a string, as often as the count says)",
+        Wanted::Label => "a label's name",
+        Wanted::Target => "a string, a register or `{`",
     }
 }
 
 // The end of the line or of the text is told first: it is not seen under the mark.
-fn print_early(rt: HostRuntime, stream: Stream, stands: Stands) {
+fn print_early(to: Printer, stands: Stands) {
     match stands {
-        Stands::Newline => write_text(rt, stream, b"the line ends too early: "),
-        Stands::End => write_text(rt, stream, b"the text ends too early: "),
+        Stands::Newline => to.text(b"the line ends too early: "),
+        Stands::End => to.text(b"the text ends too early: "),
         _ => {}
     }
 }
 
-fn print_name_hint(rt: HostRuntime, stream: Stream, stands: Stands) {
+fn print_name_hint(to: Printer, stands: Stands) {
     match stands {
-        Stands::String => write_text(rt, stream, b": it has no quotes"),
-        Stands::Action => write_text(rt, stream, b": an action's name cannot be a label"),
-        Stands::Keyword | Stands::Catch | Stands::Finally => {
-            write_text(rt, stream, b": this word has another meaning")
-        }
-        _ => {}
-    }
-}
-
-fn print_quote_hint(rt: HostRuntime, stream: Stream, stands: Stands) {
-    match stands {
-        Stands::Word | Stands::Action | Stands::Quote => {
-            write_text(rt, stream, b" (a string has double quotes)")
-        }
-        Stands::Beyond => write_text(
-            rt,
-            stream,
-            b" (registers go up to 255, constants to 65,535)",
+        Stands::String => to.text(b": it has no quotes"),
+        Stands::Action => to.text(b": an action's name cannot be a label"),
+        Stands::Keyword | Stands::Catch | Stands::Finally => to.text(
+            b": this word has another meaning",
         ),
         _ => {}
     }
 }
 
-fn print_target_hint(rt: HostRuntime, stream: Stream, stands: Stands) {
+fn print_quote_hint(to: Printer, stands: Stands) {
     match stands {
-        Stands::Newline => write_text(rt, stream, b" on the same line"),
-        _ => print_quote_hint(rt, stream, stands),
+        Stands::Word | Stands::Action | Stands::Quote => to.text(b" (a string has double quotes)"),
+        Stands::Beyond => to.text(b" (registers go up to 255, constants to 65,535)"),
+        _ => {}
     }
 }
 
-fn print_hint(rt: HostRuntime, stream: Stream, w: Wanted, stands: Stands) {
+fn print_target_hint(to: Printer, stands: Stands) {
+    match stands {
+        Stands::Newline => to.text(b" on the same line"),
+        _ => print_quote_hint(to, stands),
+    }
+}
+
+fn print_hint(to: Printer, w: Wanted, stands: Stands) {
     match w {
-        Wanted::Label => print_name_hint(rt, stream, stands),
-        Wanted::String | Wanted::Value | Wanted::Parameter => print_quote_hint(rt, stream, stands),
-        Wanted::Target => print_target_hint(rt, stream, stands),
+        Wanted::Label => print_name_hint(to, stands),
+        Wanted::String | Wanted::Value | Wanted::Parameter => print_quote_hint(to, stands),
+        Wanted::Target => print_target_hint(to, stands),
         _ => {}
     }
 }
 
-fn print_operand(rt: HostRuntime, stream: Stream, w: Wanted, stands: Stands) {
-    print_early(rt, stream, stands);
-    print_wanted(rt, stream, w);
-    write_text(rt, stream, b" was expected");
-    print_hint(rt, stream, w, stands);
+fn print_operand(to: Printer, w: Wanted, stands: Stands) {
+    print_early(to, stands);
+    to.text(words_of(w).as_bytes());
+    to.text(b" was expected");
+    print_hint(to, w, stands);
 }
 
-fn print_operand_or_end(rt: HostRuntime, stream: Stream, w: Wanted, stands: Stands) {
-    print_wanted(rt, stream, w);
-    write_text(rt, stream, b" or the end of the line was expected");
-    print_hint(rt, stream, w, stands);
+fn print_operand_or_end(to: Printer, w: Wanted, stands: Stands) {
+    to.text(words_of(w).as_bytes());
+    to.text(b" or the end of the line was expected");
+    print_hint(to, w, stands);
 }
 
-fn print_comma_then(rt: HostRuntime, stream: Stream, w: Wanted, stands: Stands) {
-    print_early(rt, stream, stands);
-    write_text(rt, stream, b"a comma was expected, then ");
-    print_wanted(rt, stream, w);
+fn print_comma_then(to: Printer, w: Wanted, stands: Stands) {
+    print_early(to, stands);
+    to.text(b"a comma was expected, then ");
+    to.text(words_of(w).as_bytes());
 }
 
-fn print_brace(rt: HostRuntime, stream: Stream, stands: Stands) {
-    print_early(rt, stream, stands);
+fn print_brace(to: Printer, stands: Stands) {
+    print_early(to, stands);
     match stands {
-        Stands::Newline => write_text(rt, stream, b"`{` was expected on the same line"),
-        _ => write_text(rt, stream, b"`{` was expected"),
+        Stands::Newline => to.text(b"`{` was expected on the same line"),
+        _ => to.text(b"`{` was expected"),
     }
 }
 
-pub fn print_sentence(rt: HostRuntime, stream: Stream, s: Sentence, stands: Stands) {
-    match s {
-        Sentence::Operand(w) => print_operand(rt, stream, w, stands),
-        Sentence::OperandOrEnd(w) => print_operand_or_end(rt, stream, w, stands),
-        Sentence::CommaThen(w) => print_comma_then(rt, stream, w, stands),
-        Sentence::CommaOrEnd => write_text(
-            rt,
-            stream,
-            b"a comma or the end of the line was expected",
-        ),
-        Sentence::Brace => print_brace(rt, stream, stands),
-        Sentence::BraceByCount => {
-            write_text(
-                rt,
-                stream,
-                b"`{` was expected: the count says how many parameters there are",
-            )
-        }
-        Sentence::BraceNoMore => {
-            write_text(
-                rt,
-                stream,
-                b"`{` was expected: this action takes no more operands",
-            )
-        }
-        Sentence::LineEnd => write_text(rt, stream, b"the end of the line was expected"),
-        Sentence::NoOperands => {
-            write_text(
-                rt,
-                stream,
-                b"the end of the line was expected: this action takes no operands",
-            )
-        }
-        Sentence::NoMoreOperands => {
-            write_text(
-                rt,
-                stream,
-                b"the end of the line was expected: this action takes no more operands",
-            )
-        }
-        Sentence::NoBlock => {
-            write_text(
-                rt,
-                stream,
-                b"the end of the line was expected: no block can stand here",
-            )
-        }
-        Sentence::LineBeforeBrace => write_text(rt, stream, b"a new line was expected before `}`"),
-        Sentence::LineBeforeCatch => write_text(
-            rt,
-            stream,
-            b"a new line was expected before catch",
-        ),
-        Sentence::LineBeforeFinally => write_text(
-            rt,
-            stream,
-            b"a new line was expected before finally",
-        ),
-        Sentence::OneToALine => {
-            write_text(
-                rt,
-                stream,
-                b"the end of the line was expected: each action has its own line",
-            )
-        }
-        Sentence::ActionAsLabel => write_text(rt, stream, b"an action's name cannot be a label"),
-        Sentence::NoSuchAction => write_text(
-            rt,
-            stream,
-            b"no such action, or a label without its colon",
-        ),
-        Sentence::KeywordAsLabel => {
-            write_text(
-                rt,
-                stream,
-                b"this word has another meaning and cannot be a label",
-            )
-        }
-        Sentence::ActionOrLabel => write_text(rt, stream, b"an action or a label was expected"),
-        Sentence::ActionLabelOrBrace => write_text(
-            rt,
-            stream,
-            b"an action, a label or `}` was expected",
-        ),
-        Sentence::NotOpen => write_text(rt, stream, b"no block is open here that `}` could close"),
-        Sentence::BraceAlone => {
-            write_text(
-                rt,
-                stream,
-                b"`{` stands on the line of its action, behind the operands",
-            )
-        }
-        Sentence::HandlerAlone => {
-            write_text(
-                rt,
-                stream,
-                b"catch and finally stand behind a Try's block, each once and in this order",
-            )
-        }
-        Sentence::InsideBlock => {
-            write_text(
-                rt,
-                stream,
-                b"the text ends inside a block: `}` was expected",
-            )
-        }
-        Sentence::NameCut => {
-            write_text(
-                rt,
-                stream,
-                b"a name has the letters a to z, digits, _ and $, and nothing else",
-            )
-        }
-        Sentence::Comment => write_text(rt, stream, b"there are no comments in a patch"),
-        Sentence::Semicolon => {
-            write_text(
-                rt,
-                stream,
-                b"the end of the line ends an action, and there are no comments in a patch",
-            )
-        }
-        Sentence::Space => write_text(rt, stream, b"this is no plain space: type it again"),
-        Sentence::ByteOrderMark => {
-            write_text(
-                rt,
-                stream,
-                b"a byte order mark cannot stand here: save the file without one",
-            )
-        }
-        Sentence::Control => write_text(rt, stream, b"a control character cannot stand here"),
-        Sentence::Exponent => write_text(
-            rt,
-            stream,
-            b"end the line: an exponent's digits are not taken where they run to the end of the text",
-        ),
-        Sentence::Digitless => write_text(rt, stream, b"a digit is missing in this number"),
-    }
+pub fn print_sentence(to: Printer, s: Sentence, stands: Stands) {
+    let words = match s {
+        Sentence::Operand(w) => return print_operand(to, w, stands),
+        Sentence::OperandOrEnd(w) => return print_operand_or_end(to, w, stands),
+        Sentence::CommaThen(w) => return print_comma_then(to, w, stands),
+        Sentence::CommaOrEnd => "a comma or the end of the line was expected",
+        Sentence::Brace => return print_brace(to, stands),
+        Sentence::BraceByCount => "`{` was expected: the count says how many parameters there are",
+        Sentence::BraceNoMore => "`{` was expected: this action takes no more operands",
+        Sentence::LineEnd => "the end of the line was expected",
+        Sentence::NoOperands => "the end of the line was expected: this action takes no operands",
+        Sentence::NoMoreOperands =>
+            "the end of the line was expected: this action takes no more operands",
+        Sentence::NoBlock => "the end of the line was expected: no block can stand here",
+        Sentence::LineBeforeBrace => "a new line was expected before `}`",
+        Sentence::LineBeforeCatch => "a new line was expected before catch",
+        Sentence::LineBeforeFinally => "a new line was expected before finally",
+        Sentence::OneToALine => "the end of the line was expected: each action has its own line",
+        Sentence::ActionAsLabel => "an action's name cannot be a label",
+        Sentence::NoSuchAction => "no such action, or a label without its colon",
+        Sentence::KeywordAsLabel => "this word has another meaning and cannot be a label",
+        Sentence::ActionOrLabel => "an action or a label was expected",
+        Sentence::ActionLabelOrBrace => "an action, a label or `}` was expected",
+        Sentence::NotOpen => "no block is open here that `}` could close",
+        Sentence::BraceAlone => "`{` stands on the line of its action, behind the operands",
+        Sentence::HandlerAlone =>
+            "catch and finally stand behind a Try's block, each once and in this order",
+        Sentence::InsideBlock => "the text ends inside a block: `}` was expected",
+        Sentence::NameCut => "a name has the letters a to z, digits, _ and $, and nothing else",
+        Sentence::Comment => "there are no comments in a patch",
+        Sentence::Semicolon =>
+            "the end of the line ends an action, and there are no comments in a patch",
+        Sentence::Space => "this is no plain space: type it again",
+        Sentence::ByteOrderMark => "a byte order mark cannot stand here: save the file without one",
+        Sentence::Control => "a control character cannot stand here",
+        Sentence::Exponent =>
+            "end the line: an exponent's digits are not taken where they run to the end of the text",
+        Sentence::Digitless => "a digit is missing in this number",
+    };
+    to.text(words.as_bytes());
 }

@@ -2,99 +2,87 @@
 // be read is told on standard error, in a line.
 #![tactic(auto)]
 
-ghost use Rattle.std.specs.Prelude.{◌≤◌};
-ghost use Rattle.files.specs.Files.{Within};
+ghost use Rattle.std.specs.Prelude.{◌≡◌, ◌≤◌, IfOk, IfSome, length};
+ghost use Rattle.std.specs.Result.{result_ok};
 
-use printing::{Stream, write_number, write_text};
+use printing::Printer;
 use std::env::{Env, FillError};
 use std::fs::{File, OpenOptions};
 use std::io;
 use std::io::{Cursor, Read, Write};
 use std::str::from_utf8;
 
-#[derive(Clone, Copy)]
-pub enum Input {
-    Bytes(usize),
-    // a read failed
-    Failed,
-}
-
 // ---- what cannot be read
-
-fn say(rt: HostRuntime, text: &[u8]) {
-    write_text(rt, Stream::Errors, text);
-}
 
 // Where the system's words for an error end: std writes the error's number behind them.
 fn words_end(text: &[u8]) -> usize {
-    for i in 0..text.len() {
-        if text[i..].starts_with(b" (os error ") {
-            return i;
-        }
-    }
-    text.len()
+    text.windows(11)
+        .position(|part| part == b" (os error ".as_slice())
+        .unwrap_or(text.len())
 }
 
-fn say_reason(rt: HostRuntime, error: &io::Error) {
+fn say_reason(to: Printer, error: &io::Error) {
     let mut said = Cursor::new([0u8; 256]);
     let _ = write!(said, "{error}");
     let end = said.position() as usize;
     let bytes = said.into_inner();
     let text = views::part(&bytes, 0, end);
-    say(rt, views::part(text, 0, words_end(text)));
+    to.text(views::part(text, 0, words_end(text)));
 }
 
 // Says what the system said of a file, as `program: name: reason`.
 pub fn say_unread(rt: HostRuntime, program: &[u8], name: &[u8], error: &io::Error) {
-    say(rt, program);
-    say(rt, b": ");
-    views::print_name(rt, Stream::Errors, name);
-    say(rt, b": ");
-    say_reason(rt, error);
-    say(rt, b"\n");
+    let to = Printer::Errors(rt);
+    to.text(program);
+    to.text(b": ");
+    views::print_name(to, name);
+    to.text(b": ");
+    say_reason(to, error);
+    to.text(b"\n");
+}
+
+// How much was read; a failure is told with the two names.
+fn told(rt: HostRuntime, program: &[u8], name: &[u8], read: io::Result<usize>) -> Option<usize>
+    ensures { result ≡ result_ok read }
+{
+    match read {
+        Ok(n) => Some(n),
+        Err(error) => {
+            say_unread(rt, program, name, &error);
+            None
+        }
+    }
 }
 
 // ---- a file that is open
 
-// The first bytes of what is open, as many as the buffer holds. A failure is told with the two names.
-pub fn read_input<R: Read>(
-    rt: HostRuntime,
-    program: &[u8],
-    name: &[u8],
-    input: &mut R,
-    buf: &mut [u8],
-) -> Input
-    ensures { Within buf.new result }
+// The first bytes of what is open, as many as the buffer holds.
+pub fn read_up_to<R: Read>(input: &mut R, buf: &mut [u8]) -> io::Result<usize>
+    ensures { IfOk result (λ n. n ≤ length buf.new) }
 {
     let mut n = 0;
     while n < buf.len() {
-        match input.read(&mut buf[n..]) {
-            Ok(0) => return Input::Bytes(n),
-            Ok(more) => {
-                n += more;
-            }
-            Err(error) => {
-                say_unread(rt, program, name, &error);
-                return Input::Failed;
-            }
+        let more = input.read(&mut buf[n..])?;
+        if more == 0 {
+            break;
         }
+        n += more;
     }
-    Input::Bytes(n)
+    Ok(n)
 }
 
 // `-` is standard input.
 pub fn is_standard_input(name: &[u8]) -> bool {
-    if name.len() != 1 {
-        return false;
-    }
-    name[0] == b'-'
+    name == b"-".as_slice()
 }
 
-pub fn read_standard_input(rt: HostRuntime, program: &[u8], buf: &mut [u8]) -> Input
-    ensures { Within buf.new result }
+// The first bytes of standard input; none where a read failed, which is told with the program's name.
+pub fn read_standard_input(rt: HostRuntime, program: &[u8], buf: &mut [u8]) -> Option<usize>
+    ensures { IfSome result (λ n. n ≤ length buf.new) }
 {
     let mut input = rt.stdin();
-    read_input(rt, program, b"standard input", &mut input, buf)
+    let read = read_up_to(&mut input, buf);
+    told(rt, program, b"standard input", read)
 }
 
 // ---- the arguments
@@ -163,30 +151,25 @@ fn open_named(rt: HostRuntime, name: &[u8]) -> io::Result<File> {
     }
 }
 
-fn read_named(rt: HostRuntime, program: &[u8], name: &[u8], buf: &mut [u8]) -> Input
-    ensures { Within buf.new result }
+fn read_named(rt: HostRuntime, name: &[u8], buf: &mut [u8]) -> io::Result<usize>
+    ensures { IfOk result (λ n. n ≤ length buf.new) }
 {
-    match open_named(rt, name) {
-        Ok(file) => {
-            let mut file = file;
-            read_input(rt, program, name, &mut file, buf)
-        }
-        Err(error) => {
-            say_unread(rt, program, name, &error);
-            Input::Failed
-        }
-    }
+    let mut file = open_named(rt, name)?;
+    read_up_to(&mut file, buf)
 }
 
-// The first bytes of the file of that name. A failure is told with the program's name.
-pub fn read_file(rt: HostRuntime, program: &[u8], name: &[u8], buf: &mut [u8]) -> Input
-    ensures { Within buf.new result }
+// The first bytes of the file of that name; none where it could not be read, which is told with the program's name.
+pub fn read_file(rt: HostRuntime, program: &[u8], name: &[u8], buf: &mut [u8]) -> Option<usize>
+    ensures { IfSome result (λ n. n ≤ length buf.new) }
 {
     if is_standard_input(name) {
         return read_standard_input(rt, program, buf);
     }
-    read_named(rt, program, name, buf)
+    let read = read_named(rt, name, buf);
+    told(rt, program, name, read)
 }
+
+// ---- what became of the files
 
 // What became of a file.
 #[derive(Clone, Copy)]
@@ -198,61 +181,58 @@ pub enum Outcome {
     Failed,
 }
 
-pub fn one_if_refused(o: Outcome) -> u64
-    ensures { result ≤ 1 }
-{
-    match o {
-        Outcome::Refused => 1,
-        _ => 0,
-    }
-}
-
-pub fn one_if_failed(o: Outcome) -> u64
-    ensures { result ≤ 1 }
-{
-    match o {
-        Outcome::Failed => 1,
-        _ => 0,
-    }
-}
-
-pub fn warnings_of(o: Outcome) -> u64 {
-    match o {
-        Outcome::Read(n) => n,
-        _ => 0,
-    }
-}
-
 // How many files were refused, how many could not be read, and how many warnings there are of the others.
-#[derive(Clone, Copy)]
+#[derive(Clone, Copy, Default)]
 pub struct Tally {
     pub refused: u64,
     pub failed: u64,
     pub warnings: u64,
 }
 
-// 0: all files were read; 1: one was refused; 2: one could not be read; 3: all were read, some with warnings.
-pub fn status_of(t: Tally) -> u64 {
-    if 0 < t.failed {
-        return 2;
+impl Tally {
+    // A file more. No count comes near to the limit.
+    pub fn add(&mut self, outcome: Outcome) {
+        match outcome {
+            Outcome::Read(n) => self.warnings = self.warnings.wrapping_add(n),
+            Outcome::Refused => self.refused = self.refused.wrapping_add(1),
+            Outcome::Failed => self.failed = self.failed.wrapping_add(1),
+        }
     }
-    if 0 < t.refused {
-        return 1;
+
+    pub fn status(self) -> Status {
+        if 0 < self.failed {
+            Status::Failed
+        } else if 0 < self.refused {
+            Status::Refused
+        } else if 0 < self.warnings {
+            Status::Warned
+        } else {
+            Status::Read
+        }
     }
-    if 0 < t.warnings {
-        return 3;
-    }
-    0
+}
+
+// What a program tells of its files, by the number that it writes.
+#[derive(Clone, Copy)]
+pub enum Status {
+    // all were read
+    Read,
+    // one was refused
+    Refused,
+    // one could not be read
+    Failed,
+    // all were read, some with warnings
+    Warned,
 }
 
 // Where the scripts at the root read a program's status from: a program of Rattle has none of its own.
 const STATUS: &str = "/dev/fd/3";
 
-fn write_status(rt: HostRuntime, status: u64) -> io::Result<()> {
+fn write_status(rt: HostRuntime, status: Status) -> io::Result<()> {
     let mut file = OpenOptions::new().append(true).open(&rt, STATUS)?;
-    write!(file, "{status}\n")
+    write!(file, "{}\n", status as u8)
 }
 
-pub fn tell_status(rt: HostRuntime, status: u64) {
+pub fn tell_status(rt: HostRuntime, status: Status) {
     let _ = write_status(rt, status);
 }

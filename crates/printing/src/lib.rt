@@ -6,42 +6,39 @@ use answers::Refusal;
 use std::io::Print;
 use tokens::Span;
 
-// Where something is printed.
+// Where something is printed, to standard output or to standard error.
 #[derive(Clone, Copy)]
-pub enum Stream {
-    Output,
-    Errors,
+pub enum Printer {
+    Output(HostRuntime),
+    Errors(HostRuntime),
 }
 
-pub fn write_text(rt: HostRuntime, stream: Stream, text: &[u8]) {
-    let _ = match stream {
-        Stream::Output => rt.stdout().write_all(text),
-        Stream::Errors => rt.stderr().write_all(text),
-    };
-}
+impl Printer {
+    pub fn text(self, text: &[u8]) {
+        let _ = match self {
+            Printer::Output(rt) => rt.stdout().write_all(text),
+            Printer::Errors(rt) => rt.stderr().write_all(text),
+        };
+    }
 
-pub fn write_number(rt: HostRuntime, stream: Stream, n: u64) {
-    let _ = match stream {
-        Stream::Output => rt.stdout().print(n),
-        Stream::Errors => rt.stderr().print(n),
-    };
+    pub fn number(self, n: u64) {
+        let _ = match self {
+            Printer::Output(rt) => rt.stdout().print(n),
+            Printer::Errors(rt) => rt.stderr().print(n),
+        };
+    }
 }
 
 pub fn print_text(rt: HostRuntime, text: &[u8]) {
-    write_text(rt, Stream::Output, text);
+    Printer::Output(rt).text(text);
 }
 
 pub fn print_number(rt: HostRuntime, n: u64) {
-    write_number(rt, Stream::Output, n);
+    Printer::Output(rt).number(n);
 }
 
 pub fn print_signed(rt: HostRuntime, n: i32) {
-    if n < 0 {
-        print_text(rt, b"-");
-        print_number(rt, (-(n as i64)) as u64);
-        return;
-    }
-    print_number(rt, n as u64);
+    let _ = print!(rt; "{n}");
 }
 
 // A double's bits, 16 hexadecimal digits.
@@ -50,15 +47,12 @@ pub fn print_bits(rt: HostRuntime, bits: u64) {
 }
 
 pub fn print_span(rt: HostRuntime, s: Span) {
-    print_number(rt, s.start as u64);
-    print_text(rt, b"..");
-    print_number(rt, s.end as u64);
+    let _ = print!(rt; "{}..{}", s.start, s.end);
 }
 
 // As `pcode-list` prints it.
 pub fn print_refusal(rt: HostRuntime, r: Refusal) {
-    print_text(rt, b"refused ");
-    print_number(rt, answers::refusal_number(r));
-    print_text(rt, b" at ");
-    print_number(rt, answers::refusal_place(r) as u64);
+    let number = answers::refusal_number(r);
+    let place = answers::refusal_place(r);
+    let _ = print!(rt; "refused {number} at {place}");
 }
