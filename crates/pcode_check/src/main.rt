@@ -4,13 +4,13 @@
 #![tactic(auto)]
 
 use as2_pcode::Counts;
-use files::{Input, Outcome, Tally};
-use printing::{Stream, print_number, print_text, write_text};
+use files::{Outcome, Status, Tally};
+use printing::{Printer, print_number, print_text};
 use reporting::print_name;
 use std::env::Env;
 
 fn print_ok(rt: HostRuntime, name: &[u8], c: Counts) {
-    print_name(rt, Stream::Output, name);
+    print_name(Printer::Output(rt), name);
     print_text(rt, b": ok, ");
     reporting::print_counts(rt, c.actions, c.operands, c.levels, c.labels);
 }
@@ -36,7 +36,7 @@ fn check_text(rt: HostRuntime, name: &[u8], text: &[u8]) -> Outcome {
             Outcome::Read(reporting::print_warnings(rt, name, text, &tokens, &operands, c.operands))
         }
         Err(r) => {
-            reporting::print_refused(rt, Stream::Output, name, text, &mut tokens, r);
+            reporting::print_refused(Printer::Output(rt), name, text, &mut tokens, r);
             Outcome::Refused
         }
     }
@@ -46,8 +46,8 @@ fn check_text(rt: HostRuntime, name: &[u8], text: &[u8]) -> Outcome {
 fn check_file(rt: HostRuntime, name: &[u8]) -> Outcome {
     let mut text = [0u8; 65537];
     match files::read_file(rt, b"pcode-check", name, &mut text) {
-        Input::Bytes(n) => check_text(rt, name, views::part(&text, 0, n)),
-        Input::Failed => Outcome::Failed,
+        Some(n) => check_text(rt, name, &text[..n]),
+        None => Outcome::Failed,
     }
 }
 
@@ -64,23 +64,11 @@ fn check_argument(rt: HostRuntime, i: usize) -> Outcome {
 
 // The arguments from 1 on: argument 0 is the program.
 fn check_arguments(rt: HostRuntime, count: usize) -> Tally {
-    let mut refused: u64 = 0;
-    let mut failed: u64 = 0;
-    let mut warnings: u64 = 0;
-    let mut i = 1;
-    while i < count {
-        let outcome = check_argument(rt, i);
-        refused += files::one_if_refused(outcome);
-        failed += files::one_if_failed(outcome);
-        // nothing prints so many that the sum wraps
-        warnings = warnings.wrapping_add(files::warnings_of(outcome));
-        i += 1;
+    let mut tally = Tally::default();
+    for i in 1..count {
+        tally.add(check_argument(rt, i));
     }
-    Tally {
-        refused,
-        failed,
-        warnings,
-    }
+    tally
 }
 
 fn print_tally(rt: HostRuntime, t: Tally, count: usize) {
@@ -103,11 +91,11 @@ fn print_tally(rt: HostRuntime, t: Tally, count: usize) {
 fn main(rt: HostRuntime) {
     let count = files::argument_count(rt);
     if count < 2 {
-        write_text(rt, Stream::Errors, b"usage: pcode-check FILE..\n");
-        files::tell_status(rt, 2);
+        Printer::Errors(rt).text(b"usage: pcode-check FILE..\n");
+        files::tell_status(rt, Status::Failed);
         return;
     }
     let t = check_arguments(rt, count);
     print_tally(rt, t, count - 1);
-    files::tell_status(rt, files::status_of(t));
+    files::tell_status(rt, t.status());
 }

@@ -5,8 +5,8 @@
 use action_records::Style;
 use answers::Refusal;
 use export::Exporting;
-use files::Input;
-use printing::{Stream, print_text, write_text};
+use files::Status;
+use printing::{Printer, print_text};
 use std::env::Env;
 
 // A parameter that is an array has its length by its type, so lending it on asks no proof.
@@ -15,7 +15,7 @@ fn write_movie(rt: HostRuntime, out: &[u8; 655360], n: usize) {
 }
 
 fn print_refused(rt: HostRuntime, name: &[u8], text: &[u8], tokens: &mut [u64; 65536], r: Refusal) {
-    reporting::print_refused_at(rt, Stream::Errors, name, text, tokens, r);
+    reporting::print_refused_at(Printer::Errors(rt), name, text, tokens, r);
 }
 
 // A parameter that is an array has its length by its type, so lending it on asks no proof.
@@ -32,9 +32,9 @@ fn export_into(
     export::export(text, tokens, actions, operands, levels, labels, style, out)
 }
 
-// Answers the status. An entry of each table but the tokens' takes two bytes of text or more, the top level none. That of a level has two
+// An entry of each table but the tokens' takes two bytes of text or more, the top level none. That of a level has two
 // words. A movie has at most ten bytes for each byte of its text.
-fn export_text(rt: HostRuntime, name: &[u8], text: &[u8], style: Style) -> u64 {
+fn export_text(rt: HostRuntime, name: &[u8], text: &[u8], style: Style) -> Status {
     let mut tokens = [0u64; 65536];
     let mut actions = [0u64; 32769];
     let mut operands = [0u64; 32769];
@@ -54,31 +54,31 @@ fn export_text(rt: HostRuntime, name: &[u8], text: &[u8], style: Style) -> u64 {
     match exporting {
         Exporting::Written(_, n) => {
             write_movie(rt, &out, n);
-            0
+            Status::Read
         }
         Exporting::Refused(r) => {
             print_refused(rt, name, text, &mut tokens, r);
-            1
+            Status::Refused
         }
     }
 }
 
 // A text of one byte over the limit is enough to refuse it.
-fn export_file(rt: HostRuntime, name: &[u8], style: Style) -> u64 {
+fn export_file(rt: HostRuntime, name: &[u8], style: Style) -> Status {
     let mut text = [0u8; 65537];
     match files::read_file(rt, b"pcode-export", name, &mut text) {
-        Input::Bytes(n) => export_text(rt, name, views::part(&text, 0, n), style),
-        Input::Failed => 2,
+        Some(n) => export_text(rt, name, &text[..n], style),
+        None => Status::Failed,
     }
 }
 
-fn export_argument(rt: HostRuntime, i: usize, style: Style) -> u64 {
+fn export_argument(rt: HostRuntime, i: usize, style: Style) -> Status {
     let mut name = [0u8; 4096];
     match rt.arg(i, &mut name) {
         Ok(n) => export_file(rt, &name[..n], style),
         Err(_) => {
             files::say_long_argument(rt, b"pcode-export");
-            2
+            Status::Failed
         }
     }
 }
@@ -92,7 +92,7 @@ fn is_as_printed(rt: HostRuntime, i: usize) -> bool {
 }
 
 // Argument 0 is the program. The last of the others names the file, whatever its name.
-fn export_arguments(rt: HostRuntime, count: usize) -> u64 {
+fn export_arguments(rt: HostRuntime, count: usize) -> Status {
     if count < 2 {
         return export_file(rt, b"-", Style::AsPlayed);
     }
@@ -102,12 +102,8 @@ fn export_arguments(rt: HostRuntime, count: usize) -> u64 {
     if is_as_printed(rt, 1) {
         return export_argument(rt, 2, Style::AsPrinted);
     }
-    write_text(
-        rt,
-        Stream::Errors,
-        b"usage: pcode-export [--as-printed] [FILE]\n",
-    );
-    2
+    Printer::Errors(rt).text(b"usage: pcode-export [--as-printed] [FILE]\n");
+    Status::Failed
 }
 
 fn main(rt: HostRuntime) {

@@ -7,7 +7,8 @@ ghost use Rattle.pcode_list.specs.Listed.{Listed, NeverShort};
 
 use answers::Refusal;
 use as2_pcode::Counts;
-use files::Input;
+use files::Status;
+use level_trees::Source;
 
 // How many bytes of a text are listed.
 const MOST: usize = 4096;
@@ -30,27 +31,6 @@ fn read_listed(
     as2_pcode::read(text, tokens, actions, operands, levels, labels)
 }
 
-// A parameter that is an array has its length by its type, so lending it on asks no proof.
-fn print_listed(
-    rt: HostRuntime,
-    text: &[u8],
-    tokens: &[u64; 4096],
-    actions: &[u64; 4097],
-    operands: &[u64; 4097],
-    labels: &[u64; 4097],
-    r: Result<Counts, Refusal>,
-) {
-    listing::print_reading(rt, text, tokens, actions, operands, labels, r);
-}
-
-// 0: listed; 1: refused.
-fn status_of(r: Result<Counts, Refusal>) -> u64 {
-    match r {
-        Ok(_) => 0,
-        Err(_) => 1,
-    }
-}
-
 fn list(rt: HostRuntime, text: &[u8]) {
     let mut tokens = [0u64; 4096];
     let mut actions = [0u64; 4097];
@@ -65,15 +45,24 @@ fn list(rt: HostRuntime, text: &[u8]) {
         &mut levels,
         &mut labels,
     );
-    print_listed(rt, text, &tokens, &actions, &operands, &labels, r);
-    files::tell_status(rt, status_of(r));
+    let of = Source {
+        text,
+        tokens: &tokens,
+        actions: &actions,
+        operands: &operands,
+        levels: &levels,
+        labels: &labels,
+    };
+    listing::print_reading(rt, of, r);
+    let status = if r.is_ok() { Status::Read } else { Status::Refused };
+    files::tell_status(rt, status);
 }
 
 // A byte more than is listed tells that there are more.
 fn main(rt: HostRuntime) {
     let mut input = [0u8; 4097];
     match files::read_standard_input(rt, b"pcode-list", &mut input) {
-        Input::Bytes(n) => list(rt, &input[..n]),
-        Input::Failed => files::tell_status(rt, 2),
+        Some(n) => list(rt, &input[..n]),
+        None => files::tell_status(rt, Status::Failed),
     }
 }

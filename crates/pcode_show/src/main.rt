@@ -3,14 +3,15 @@
 #![tactic(auto)]
 
 use as2_pcode::Counts;
-use files::{Input, Outcome, Tally};
-use printing::{Stream, print_text};
+use files::{Outcome, Tally};
+use level_trees::Source;
+use printing::{Printer, print_text};
 use reporting::print_name;
 use std::env::Env;
 
 fn print_head(rt: HostRuntime, name: &[u8], c: Counts) {
     print_text(rt, b"file  ");
-    print_name(rt, Stream::Output, name);
+    print_name(Printer::Output(rt), name);
     print_text(rt, b": ");
     reporting::print_counts(rt, c.actions, c.operands, c.levels, c.labels);
 }
@@ -33,25 +34,29 @@ fn show_text(rt: HostRuntime, name: &[u8], text: &[u8]) -> Outcome {
     match reading {
         Ok(c) => {
             print_head(rt, name, c);
-            showing::print_shown(rt, text, &tokens, &actions, &operands, &levels, &labels, c);
+            let of = Source {
+                text,
+                tokens: &tokens,
+                actions: &actions,
+                operands: &operands,
+                levels: &levels,
+                labels: &labels,
+            };
+            showing::print_shown(rt, of, c);
             Outcome::Read(0)
         }
         Err(r) => {
-            reporting::print_refused(rt, Stream::Output, name, text, &mut tokens, r);
+            reporting::print_refused(Printer::Output(rt), name, text, &mut tokens, r);
             Outcome::Refused
         }
     }
 }
 
 // An empty line parts two files.
-fn print_gap(rt: HostRuntime, is_first: bool) {
+fn show_next(rt: HostRuntime, name: &[u8], text: &[u8], is_first: bool) -> Outcome {
     if !is_first {
         print_text(rt, b"\n");
     }
-}
-
-fn show_next(rt: HostRuntime, name: &[u8], text: &[u8], is_first: bool) -> Outcome {
-    print_gap(rt, is_first);
     show_text(rt, name, text)
 }
 
@@ -59,8 +64,8 @@ fn show_next(rt: HostRuntime, name: &[u8], text: &[u8], is_first: bool) -> Outco
 fn show_file(rt: HostRuntime, name: &[u8], is_first: bool) -> Outcome {
     let mut text = [0u8; 65537];
     match files::read_file(rt, b"pcode-show", name, &mut text) {
-        Input::Bytes(n) => show_next(rt, name, views::part(&text, 0, n), is_first),
-        Input::Failed => Outcome::Failed,
+        Some(n) => show_next(rt, name, &text[..n], is_first),
+        None => Outcome::Failed,
     }
 }
 
@@ -75,26 +80,19 @@ fn show_argument(rt: HostRuntime, i: usize, is_first: bool) -> Outcome {
     }
 }
 
-// The arguments from 1 on: argument 0 is the program.
+// The arguments from 1 on: argument 0 is the program. Nothing is printed of a file that cannot be read.
 fn show_arguments(rt: HostRuntime, count: usize) -> Tally {
-    let mut refused: u64 = 0;
-    let mut failed: u64 = 0;
-    let mut i = 1;
-    while i < count {
-        // nothing is printed of a file that cannot be read
-        let outcome = show_argument(rt, i, i as u64 == failed + 1);
-        refused += files::one_if_refused(outcome);
-        failed += files::one_if_failed(outcome);
-        i += 1;
+    let mut tally = Tally::default();
+    let mut is_first = true;
+    for i in 1..count {
+        let outcome = show_argument(rt, i, is_first);
+        is_first &= matches!(outcome, Outcome::Failed);
+        tally.add(outcome);
     }
-    Tally {
-        refused,
-        failed,
-        warnings: 0,
-    }
+    tally
 }
 
 fn main(rt: HostRuntime) {
-    let t = show_arguments(rt, files::argument_count(rt));
-    files::tell_status(rt, files::status_of(t));
+    let tally = show_arguments(rt, files::argument_count(rt));
+    files::tell_status(rt, tally.status());
 }

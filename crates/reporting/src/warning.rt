@@ -1,10 +1,10 @@
 // Warnings of a text that was read: a string without its closing quote loses its last letter.
-ghost use Rattle.std.specs.Prelude.{◌≡◌, ◌≤◌};
+ghost use Rattle.std.specs.Prelude.{◌≡◌};
 ghost use Rattle.places.specs.Places.{line_at};
 
 use crate::{print_name, print_place};
 use columns::Columns;
-use printing::{Stream, print_text};
+use printing::Printer;
 use scanner::byte_at;
 use tokens::Token;
 
@@ -12,26 +12,17 @@ use tokens::Token;
 
 // The place of the letter: the raw text of a string ends before it.
 fn lost_at(token: Token) -> usize {
-    let raw = token.raw;
-    raw.end
-}
-
-fn put_quoted(out: &mut Columns, b: u8) {
-    out.put_byte(b'\'');
-    out.put_byte(b);
-    out.put_byte(b'\'');
-}
-
-fn put_code(out: &mut Columns, b: u8) {
-    out.put_text(b"0x");
-    out.put_pair(b);
+    token.raw.end
 }
 
 // A control character must reach no terminal: its number stands for it.
 fn put_letter(out: &mut Columns, b: u8) {
     match b {
-        32..=126 => put_quoted(out, b),
-        _ => put_code(out, b),
+        32..=126 => out.put_text(&[b'\'', b, b'\'']),
+        _ => {
+            out.put_text(b"0x");
+            out.put_pair(b);
+        }
     }
 }
 
@@ -58,30 +49,16 @@ fn print_lost(rt: HostRuntime, text: &[u8], token: Token) {
 
 fn print_warning(rt: HostRuntime, name: &[u8], text: &[u8], token: Token, line: usize) {
     let at = lost_at(token);
-    print_name(rt, Stream::Output, name);
-    print_place(rt, Stream::Output, line, places::column_at(text, at));
-    print_text(rt, b": warning: no closing quote: ");
+    let to = Printer::Output(rt);
+    print_name(to, name);
+    print_place(to, line, places::column_at(text, at));
+    to.text(b": warning: no closing quote: ");
     print_lost(rt, text, token);
-    print_text(rt, b"\n");
-    views::print_view(rt, Stream::Output, text, at);
+    to.text(b"\n");
+    views::print_view(to, text, at);
 }
 
 // ---- all of them
-
-// The first unclosed string among the operands from `from` on.
-fn next_unclosed(operands: &[u64], from: usize) -> usize
-    ensures { from ≤ result }
-{
-    let mut i = from;
-    while i < operands.len() {
-        let operand = entries::operand_in(operands, i);
-        if operand.unclosed {
-            return i;
-        }
-        i += 1;
-    }
-    i
-}
 
 // A byte and its line.
 #[derive(Clone, Copy)]
@@ -110,15 +87,14 @@ pub fn print_warnings(
     operands: &[u64],
     count: usize,
 ) -> u64 {
-    let operands = lookups::words_from(operands, 0, count);
     let mut p = Place { byte: 0, line: 1 };
     let mut n: u64 = 0;
-    let mut i = next_unclosed(operands, 0);
-    while i < operands.len() {
-        let operand = entries::operand_in(operands, i);
-        p = warn_behind(rt, name, text, entries::token_in(tokens, operand.token), p);
-        n += 1;
-        i = next_unclosed(operands, i + 1);
+    for word in lookups::words_from(operands, 0, count) {
+        let operand = entries::operand_of(*word);
+        if operand.unclosed {
+            p = warn_behind(rt, name, text, entries::token_in(tokens, operand.token), p);
+            n += 1;
+        }
     }
     n
 }

@@ -21,9 +21,7 @@ pub fn put_name(out: &mut Columns, a: ActionName) {
 
 // An action's number and name.
 pub fn put_action_of(out: &mut Columns, actions: &[u64], i: usize) {
-    let a = entries::action_in(actions, i);
-    let name = a.name;
     out.put_number(i as u64);
     out.put_byte(b' ');
-    put_name(out, name);
+    put_name(out, entries::action_in(actions, i).name);
 }

@@ -3,6 +3,7 @@ use crate::layout::{FACTS, put_action_of, put_head};
 use crate::typed::put_typed;
 use columns::Columns;
 use entries::{Block, Label, Level, Net};
+use level_trees::Source;
 
 // Behind the count of a level's actions, and behind its net.
 const NET: usize = 66;
@@ -45,14 +46,12 @@ fn put_unclosed(out: &mut Columns, n: usize) {
 }
 
 fn put_level(out: &mut Columns, actions: &[u64], i: usize, l: Level) {
-    let block = l.block;
-    let net = l.net;
     put_head(out, b"level   ", i);
-    put_owner(out, actions, block);
+    put_owner(out, actions, l.block);
     out.put_column(FACTS);
     out.put_count(l.actions, b"action");
     out.put_column(NET);
-    put_net(out, actions, net);
+    put_net(out, actions, l.net);
     put_unclosed(out, l.unclosed);
     out.put_byte(b'\n');
 }
@@ -67,50 +66,13 @@ fn put_label(out: &mut Columns, text: &[u8], tokens: &[u64], l: Label) {
     out.put_byte(b'\n');
 }
 
-// Where the labels of a level end that start at `from`: the table has them by level.
-fn labels_end(labels: &[u64], level: usize, from: usize) -> usize {
-    let mut i = from;
-    while i < labels.len() {
-        let label = entries::label_in(labels, i);
-        if label.level != level {
-            return i;
+// The table has the labels by level.
+pub fn put_levels(out: &mut Columns, of: Source, n: usize) {
+    let mut labels = of.labels.iter().peekable();
+    for i in 0..n {
+        put_level(out, of.actions, i, entries::level_in(of.levels, i));
+        while let Some(word) = labels.next_if(|word| entries::label_of(**word).level == i) {
+            put_label(out, of.text, of.tokens, entries::label_of(*word));
         }
-        i += 1;
-    }
-    i
-}
-
-fn put_labels(
-    out: &mut Columns,
-    text: &[u8],
-    tokens: &[u64],
-    labels: &[u64],
-    from: usize,
-    to: usize,
-) {
-    let mut i = from;
-    while i < to {
-        put_label(out, text, tokens, entries::label_in(labels, i));
-        i += 1;
-    }
-}
-
-pub fn put_levels(
-    out: &mut Columns,
-    text: &[u8],
-    tokens: &[u64],
-    actions: &[u64],
-    levels: &[u64],
-    labels: &[u64],
-    n: usize,
-) {
-    let mut from = 0;
-    let mut i = 0;
-    while i < n {
-        put_level(out, actions, i, entries::level_in(levels, i));
-        let to = labels_end(labels, i, from);
-        put_labels(out, text, tokens, labels, from, to);
-        from = to;
-        i += 1;
     }
 }

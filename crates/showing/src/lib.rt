@@ -10,22 +10,17 @@ mod typed;
 
 use as2_pcode::Counts;
 use columns::Columns;
+use level_trees::Source;
 
 // For a reading that was accepted, and the tables that it filled.
-pub fn print_shown(
-    rt: HostRuntime,
-    text: &[u8],
-    tokens: &[u64],
-    actions: &[u64],
-    operands: &[u64],
-    levels: &[u64],
-    labels: &[u64],
-    c: Counts,
-) {
-    let tokens = lookups::words_from(tokens, 0, c.tokens);
-    let labels = lookups::words_from(labels, 0, c.labels);
+pub fn print_shown(rt: HostRuntime, of: Source, c: Counts) {
+    let of = Source {
+        tokens: lookups::words_from(of.tokens, 0, c.tokens),
+        labels: lookups::words_from(of.labels, 0, c.labels),
+        ..of
+    };
     let mut out = Columns::new(rt);
-    level::put_levels(&mut out, text, tokens, actions, levels, labels, c.levels);
-    action::put_actions(&mut out, text, tokens, actions, operands, labels, c.actions);
+    level::put_levels(&mut out, of, c.levels);
+    action::put_actions(&mut out, of, c.actions);
     out.finish();
 }

@@ -3,6 +3,7 @@ use crate::layout::{FACTS, put_head};
 use crate::typed::put_typed;
 use columns::Columns;
 use entries::{Action, Operand};
+use level_trees::Source;
 use names::ActionName;
 use shapes::Shape;
 use tokens::{Token, raw_text};
@@ -50,8 +51,7 @@ fn put_push_value(out: &mut Columns, raw: &[u8], v: PushValue) {
 
 // In a reading every operand that is no label has a value.
 fn put_value(out: &mut Columns, text: &[u8], token: Token) {
-    let v = values::value(text, token);
-    match v {
+    match values::value(text, token) {
         Ok(p) => put_push_value(out, raw_text(text, token), p),
         Err(_) => out.put_text(b"no value"),
     }
@@ -66,28 +66,16 @@ fn put_target(out: &mut Columns, t: Option<usize>) {
 
 // An If's or a Jump's operand is a label, whatever it reads as elsewhere.
 fn takes_label(a: ActionName) -> bool {
-    let shape = shapes::shape_of(a);
-    match shape {
-        Shape::Identifier => true,
-        _ => false,
-    }
+    matches!(shapes::shape_of(a), Shape::Identifier)
 }
 
-fn put_meaning(
-    out: &mut Columns,
-    text: &[u8],
-    tokens: &[u64],
-    labels: &[u64],
-    a: Action,
-    token: Token,
-) {
-    let name = a.name;
-    if !takes_label(name) {
-        put_value(out, text, token);
-        return;
+fn put_meaning(out: &mut Columns, of: Source, a: Action, token: Token) {
+    if takes_label(a.name) {
+        let name = raw_text(of.text, token);
+        put_target(out, lookups::target_of(of.text, of.tokens, of.labels, a.level, name));
+    } else {
+        put_value(out, of.text, token);
     }
-    let t = lookups::target_of(text, tokens, labels, a.level, raw_text(text, token));
-    put_target(out, t);
 }
 
 // What a string without its closing quote lost.
@@ -99,20 +87,12 @@ fn put_mark(out: &mut Columns, text: &[u8], token: Token, unclosed: bool) {
 }
 
 // The number of an operand is that within its action, from 1.
-pub fn put_operand(
-    out: &mut Columns,
-    text: &[u8],
-    tokens: &[u64],
-    labels: &[u64],
-    a: Action,
-    number: usize,
-    operand: Operand,
-) {
-    let token = entries::token_in(tokens, operand.token);
+pub fn put_operand(out: &mut Columns, of: Source, a: Action, number: usize, operand: Operand) {
+    let token = entries::token_in(of.tokens, operand.token);
     put_head(out, b"operand ", number);
-    put_typed(out, text, token);
+    put_typed(out, of.text, token);
     out.put_column(FACTS);
-    put_meaning(out, text, tokens, labels, a, token);
-    put_mark(out, text, token, operand.unclosed);
+    put_meaning(out, of, a, token);
+    put_mark(out, of.text, token, operand.unclosed);
     out.put_byte(b'\n');
 }

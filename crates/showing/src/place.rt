@@ -13,24 +13,7 @@ pub struct Place {
 }
 
 fn is_action_name(word: u64) -> bool {
-    let token = tokens::token_of(word);
-    let kind = token.kind;
-    match kind {
-        TokenKind::ActionName(_) => true,
-        _ => false,
-    }
-}
-
-// The first token from `from` on that names an action.
-fn next_name(tokens: &[u64], from: usize) -> usize {
-    let mut i = from;
-    while i < tokens.len() {
-        if is_action_name(tokens[i]) {
-            return i;
-        }
-        i += 1;
-    }
-    i
+    matches!(tokens::token_of(word).kind, TokenKind::ActionName(_))
 }
 
 // The place of the next action.
@@ -38,17 +21,16 @@ pub fn next_place(text: &[u8], tokens: &[u64], p: Place) -> Place
     requires { p.line ≡ line_at text.now p.byte }
     ensures { result.line ≡ line_at text.now result.byte }
 {
-    let i = next_name(tokens, p.token);
-    if tokens.len() <= i {
-        return p;
+    for i in p.token..tokens.len() {
+        if is_action_name(tokens[i]) {
+            let byte = tokens::token_of(tokens[i]).span.start;
+            let line = lookups::line_from(text, p.byte, p.line, byte);
+            return Place {
+                token: i + 1,
+                byte,
+                line,
+            };
+        }
     }
-    let token = tokens::token_of(tokens[i]);
-    let span = token.span;
-    let start = span.start;
-    let line = lookups::line_from(text, p.byte, p.line, start);
-    Place {
-        token: i + 1,
-        byte: start,
-        line,
-    }
+    p
 }

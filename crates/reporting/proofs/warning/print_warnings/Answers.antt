@@ -3,5 +3,5 @@ use Rattle.std.proofs.Common.{rules}
 use Rattle.lookups.proofs.Lines.{first_line}
 use Rattle.reporting.proofs.warning.print_warnings.Goals as goal
 
-pub loop-i-init : goal.loop-i-init
-loop-i-init c = search (rules, first_line)
+pub loop-word-init : goal.loop-word-init
+loop-word-init c = search (rules, first_line)
