@@ -2,10 +2,10 @@
 #![tactic(auto)]
 
 ghost use Rattle.std.specs.Prelude.{◌≡◌, ◌<◌, length};
-ghost use Rattle.words.specs.Tables.{Lent};
 ghost use Rattle.first_token.specs.First.{return_at, word_at, number_at, string_at, first};
 
 use tokens::TokenKind;
+use words::Names;
 
 // What stands at the start of a text: a blank, a token and its length, or a string of row 3 or 4.
 #[derive(Clone, Copy)]
@@ -25,13 +25,12 @@ fn return_at(s: &[u8]) -> Found
     Found::Token(TokenKind::Newline, 1)
 }
 
-fn word_at(s: &[u8], letters: &[u8], starts: &[usize], firsts: &[usize]) -> Found
-    requires lent { Lent letters.now starts.now firsts.now }
-    requires s_nonzero { 0 < length s.now }
+fn word_at(s: &[u8], names: &Names) -> Found
+    requires { 0 < length s.now }
     ensures { result ≡ word_at s.now }
 {
     let e = scanner::word_end(s, 1);
-    Found::Token(keywords::word_kind(&s[..e], letters, starts, firsts), e)
+    Found::Token(keywords::word_kind(&s[..e], names), e)
 }
 
 fn number_at(s: &[u8]) -> Found
@@ -64,13 +63,12 @@ fn string_at(s: &[u8]) -> Found
 }
 
 // What a text that is not empty starts with: the first byte alone decides.
-pub fn first_token(s: &[u8], letters: &[u8], starts: &[usize], firsts: &[usize]) -> Found
-    requires lent { Lent letters.now starts.now firsts.now }
-    requires s_nonzero { 0 < length s.now }
+#[tactic(auto, unfolding(crate::specs::First::first_of))]
+pub fn first_token(s: &[u8], names: &Names) -> Found
+    requires { 0 < length s.now }
     ensures { result ≡ first s.now }
 {
-    let b = s[0];
-    match b {
+    match s[0] {
         b' ' | b'\t' => Found::Blank,
         b',' => Found::Token(TokenKind::Comma, 1),
         b'{' => Found::Token(TokenKind::OpenBrace, 1),
@@ -78,7 +76,7 @@ pub fn first_token(s: &[u8], letters: &[u8], starts: &[usize], firsts: &[usize])
         b':' => Found::Token(TokenKind::Colon, 1),
         b'\n' => Found::Token(TokenKind::Newline, 1),
         b'\r' => return_at(s),
-        b'a'..=b'z' | b'A'..=b'Z' | b'_' | b'$' => word_at(s, letters, starts, firsts),
+        b'a'..=b'z' | b'A'..=b'Z' | b'_' | b'$' => word_at(s, names),
         b'0'..=b'9' | b'-' => number_at(s),
         b'"' => string_at(s),
         _ => Found::Token(TokenKind::Unknown, s.len()),

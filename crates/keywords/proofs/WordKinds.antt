@@ -1,7 +1,9 @@
 -- A word's kind by what was looked up. Assumes nothing.
 use mathlib.Core.Path.{◌≡◌, ◌∙◌, refl}
 use mathlib.Core.List.{List}
-use Prim.Native.Nat.{ℕ, ◌≤◌, ◌<◌}
+use mathlib.Core.Bool.{false}
+use Prim.Native.Nat.{ℕ, ◌<◌}
+use lib.Dec.{ltb}
 use lib.ListN.{get_or, get_or-eq_default}
 use borrow.Author.Tests.{lt-ltb, le-ltb}
 use Rattle.std.specs.Prelude.{Option, Some, None}
@@ -10,24 +12,34 @@ use Rattle.actions.specs.Numbers.{action_at}
 use Rattle.tokens.specs.declared.TokenKind.{TokenKind}
 use Rattle.tokens.specs.declared.TokenKind.TheVariants as K
 use Rattle.words.specs.Spellings.{bytes, spellings}
-use Rattle.words.specs.Words.{index_in}
+use Rattle.words.specs.Words.{index_in, find_in}
+use Rattle.words.proofs.Words.{in-found, in-missing}
 use Rattle.keywords.specs.Keywords.{keyword_kinds, keyword_words, named, number_after, word_kind}
 
-module _ (w : List ℕ) (i : ℕ) (ei : i ≡ index_in w spellings) where
-  pub action : i < 100 → K.ActionName (action_at i) ≡ named w
-  unfolding named
-  action h = simp (← ei, lt-ltb i 100 h)
+module _ (w : List ℕ) where
+  pub action : {i : ℕ} → Some i ≡ find_in w spellings → K.ActionName (action_at i) ≡ named w
+  unfolding named spellings
+  action {i} e = let f = in-found w spellings e in simp (← f.0, lt-ltb i 100 f.1)
 
-  module _ (n : 100 ≤ i) (j : ℕ) (ej : j ≡ index_in w keyword_words) where
-    pub keyword : j < 6 → get_or keyword_kinds j K.Newline ≡ named w
-    unfolding named
-    keyword h =
-        agree (λ k. get_or keyword_kinds k K.Newline) (λ k. get_or keyword_kinds k K.Identifier) 6 j refl h
-        ∙ simp (← ei, le-ltb i 100 n, ← ej)
+  pub keyword_below : {j : ℕ} → Some j ≡ find_in w keyword_words → j < 6
+  unfolding keyword_words
+  keyword_below e = (in-found w keyword_words e).1
 
-    pub identifier : 6 ≤ j → K.Identifier ≡ named w
-    unfolding named
-    identifier h = simp (← ei, le-ltb i 100 n, ← ej, get_or-eq_default keyword_kinds K.Identifier h)
+  module _ (n : None ≡ find_in w spellings) where
+    no_action : ltb (index_in w spellings) 100 ≡ false
+    unfolding spellings
+    no_action = le-ltb (index_in w spellings) 100 (in-missing w spellings n)
+
+    pub keyword : {j : ℕ} → Some j ≡ find_in w keyword_words → get_or keyword_kinds j K.Newline ≡ named w
+    unfolding named keyword_words
+    keyword {j} e =
+        let f = in-found w keyword_words e in
+        agree (λ k. get_or keyword_kinds k K.Newline) (λ k. get_or keyword_kinds k K.Identifier) 6 j refl f.1
+        ∙ simp (no_action, ← f.0)
+
+    pub identifier : None ≡ find_in w keyword_words → K.Identifier ≡ named w
+    unfolding named keyword_words
+    identifier e = simp (no_action, get_or-eq_default keyword_kinds K.Identifier (in-missing w keyword_words e))
 
 module _ (w : List ℕ) (x : Option ℕ) (ex : x ≡ number_after (bytes "constant") 65535 w) where
   pub constant : (n : ℕ) → x ≡ Some n → K.Constant n ≡ word_kind w

@@ -2,11 +2,11 @@
 #![tactic(auto)]
 
 ghost use Rattle.std.specs.Prelude.{◌≡◌, ◌≤◌};
-ghost use Rattle.words.specs.Tables.{Lent};
-ghost use Rattle.words.specs.Words.{index_in};
+ghost use Rattle.words.specs.Words.{find_in};
 ghost use Rattle.keywords.specs.Keywords.{number_after, keyword_words, named, word_kind};
 
 use tokens::TokenKind;
+use words::Names;
 
 // The letters of the keywords, one after another.
 const LETTERS: [u8; 34] = *b"catchfalsefinallynulltrueundefined";
@@ -38,32 +38,29 @@ fn number_after(prefix: &[u8], top: u64, w: &[u8]) -> Option<u64>
     numbers::parse_natural(top, &w[n..])
 }
 
-// The keyword that the word is, or 6.
-fn find_keyword(w: &[u8]) -> usize
-    ensures { result ≡ index_in w.now keyword_words }
+// The keyword that the word is.
+fn find_keyword(w: &[u8]) -> Option<usize>
+    ensures { result ≡ find_in w.now keyword_words }
 {
-    words::find_between(w, &LETTERS, &STARTS, 0, 6)
+    let i = words::find_between(w, &LETTERS, &STARTS, 0, 6);
+    if i < 6 { Some(i) } else { None }
 }
 
 // A word that is neither a constant nor a register.
-fn named_kind(w: &[u8], letters: &[u8], starts: &[usize], firsts: &[usize]) -> TokenKind
-    requires { Lent letters.now starts.now firsts.now }
+fn named_kind(w: &[u8], names: &Names) -> TokenKind
     ensures { result ≡ named w.now }
 {
-    let i = words::find_name(w, letters, starts, firsts);
-    if i < 100 {
+    if let Some(i) = words::find_name(w, names) {
         return TokenKind::ActionName(actions::action_at(i));
     }
-    let j = find_keyword(w);
-    if j < 6 {
-        return KINDS[j];
+    match find_keyword(w) {
+        Some(j) => KINDS[j],
+        None => TokenKind::Identifier,
     }
-    TokenKind::Identifier
 }
 
-// The kind of a word. The tables are those of the 100 names.
-pub fn word_kind(w: &[u8], letters: &[u8], starts: &[usize], firsts: &[usize]) -> TokenKind
-    requires { Lent letters.now starts.now firsts.now }
+// The kind of a word.
+pub fn word_kind(w: &[u8], names: &Names) -> TokenKind
     ensures { result ≡ word_kind w.now }
 {
     let constant = number_after(b"constant", 65535, w);
@@ -74,5 +71,5 @@ pub fn word_kind(w: &[u8], letters: &[u8], starts: &[usize], firsts: &[usize]) -
     if let Some(n) = register {
         return TokenKind::Register(n as u8);
     }
-    named_kind(w, letters, starts, firsts)
+    named_kind(w, names)
 }

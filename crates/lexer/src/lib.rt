@@ -2,7 +2,6 @@
 #![tactic(auto)]
 
 ghost use Rattle.std.specs.Prelude.{◌≡◌, ◌-◌, ◌≤◌, ◌<◌, length, drop};
-ghost use Rattle.words.specs.Tables.{Lent};
 ghost use Rattle.first_token.specs.First.{first};
 ghost use Rattle.first_token.specs.Fitting.{Fitting};
 ghost use Rattle.lexer.specs.Lexing.{Lexes};
@@ -10,32 +9,25 @@ ghost use Rattle.lexer.specs.Scratch.{Stored, LexesUtf8};
 
 use answers::Refusal;
 use first_token::Found;
+use words::Names;
 
 // What stands at a byte of a text.
-fn token_at(text: &[u8], at: usize, letters: &[u8], starts: &[usize], firsts: &[usize]) -> Found
-    requires lent { Lent letters.now starts.now firsts.now }
-    requires at_in_bounds { at < length text.now }
+fn token_at(text: &[u8], at: usize, names: &Names) -> Found
+    requires { at < length text.now }
     ensures { (result ≡ first (drop at text.now)) × Fitting (length text.now - at) result }
 {
-    first_token::first_token(&text[at..], letters, starts, firsts)
+    first_token::first_token(&text[at..], names)
 }
 
-// The tokens of a text, one after another; the tables are those of the 100 names.
-fn lex_all(
-    text: &[u8],
-    letters: &[u8],
-    starts: &[usize],
-    firsts: &[usize],
-    words: &mut [u64],
-) -> Result<usize, Refusal>
-    requires lent { Lent letters.now starts.now firsts.now }
-    requires text_len_bound { (length text.now ≤ 65536) × (length text.now ≤ length words.old) }
+// The tokens of a text, one after another.
+fn lex_all(text: &[u8], names: &Names, words: &mut [u64]) -> Result<usize, Refusal>
+    requires { (length text.now ≤ 65536) × (length text.now ≤ length words.old) }
     ensures { Stored text.now words.new result }
 {
     let mut at = 0;
     let mut n = 0;
     while at < text.len() {
-        match token_at(text, at, letters, starts, firsts) {
+        match token_at(text, at, names) {
             Found::Blank => {
                 at += 1;
             }
@@ -57,7 +49,12 @@ pub fn lex_into(text: &[u8], words: &mut [u64]) -> Result<usize, Refusal>
     requires { (length text.now ≤ 65536) × (length text.now ≤ length words.old) }
     ensures { Stored text.now words.new result }
 {
-    lex_all(text, &words::LETTERS, &words::STARTS, &words::FIRSTS, words)
+    let names = Names {
+        letters: &words::LETTERS,
+        starts: &words::STARTS,
+        firsts: &words::FIRSTS,
+    };
+    lex_all(text, &names, words)
 }
 
 // Lexes into scratch that has a place for each byte, and hands over what is accepted and fits.

@@ -12,8 +12,10 @@ use lib.Seq.{slice, length-take-le}
 use borrow.Author.Tests.{eqb-false, leb-true, ne_eqb, not-true}
 use Rattle.laws.proofs.Tabulate.{agree, tabulate}
 use Rattle.words.specs.Spellings.{bytes, spellings}
-use Rattle.words.specs.Tables.{Entry, Lent}
-use Rattle.words.specs.Words.{lower, same_word, index_in}
+use Rattle.words.specs.Tables.{Lent, cut, firsts_from}
+use Rattle.words.specs.Words.{lower, same_word, index_in, find_in}
+use Rattle.words.proofs.Words.{found-in, missing-in}
+use Rattle.std.specs.Prelude.{Some, None}
 
 -- no name has the letter j
 abbrev clear : ℕ → List (List ℕ) → Bool
@@ -87,26 +89,16 @@ abbrev apart : ℕ → ℕ → ℕ → Bool
 apart j l h = leb l h && leb h 100 && clear j (take l (take h spellings)) && clear j (drop h spellings)
 
 -- two entries of a table that passes the test at each letter
-range : {fs : List ℕ} {j l h : ℕ} → Entry fs j l → Entry fs (j + 1) h → j < 32
-    → tabulate (λ k. apart k (get_or fs k 0) (get_or fs (k + 1) 0)) 0 32 ≡ tabulate (λ k. true) 0 32
-    → Range j l h
-range {fs} {j} {l} {h} el eh s e =
-    let t : apart j l h ≡ true =
-    rw (el.is, eh.is) (agree (λ k. apart k (get_or fs k 0) (get_or fs (k + 1) 0)) (λ k. true) 32 j e s) in
+range : (fs : List ℕ) (j : ℕ) → j < 32 → tabulate (λ k. apart k (get_or fs k 0) (get_or fs (k + 1) 0)) 0 32 ≡ tabulate (λ k. true) 0 32
+    → Range j (get_or fs j 0) (get_or fs (j + 1) 0)
+range fs j s e =
+    let l = get_or fs j 0 in
+    let h = get_or fs (j + 1) 0 in
+    let t : apart j l h ≡ true = agree (λ k. apart k (get_or fs k 0) (get_or fs (k + 1) 0)) (λ k. true) 32 j e s in
     let p = (and-eq-true_iff _ (clear j (drop h spellings))).0 t in
     let q = (and-eq-true_iff _ (clear j (take l (take h spellings)))).0 p.0 in
     let r = (and-eq-true_iff (leb l h) (leb h 100)).0 q.0 in
     record { ordered = leb-true l h r.0; inside = leb-true h 100 r.1; before = q.1; after = p.1 }
-
--- what the entries of the letters are
-module _ {letters starts firsts : List ℕ} (t : Lent letters starts firsts) where
-  pub firsts_long : length firsts ≡ 33
-  firsts_long = ap length t.first
-
-  pub letter_range : {j l h : ℕ} → Entry firsts j l → Entry firsts (j + 1) h → j < 32 → Range j l h
-  unfolding bytes spellings
-  letter_range {j} {l} {h} el eh s =
-      range (subst (λ (f : List ℕ). Entry f j l) t.first el) (subst (λ (f : List ℕ). Entry f (j + 1) h) t.first eh) s refl
 
 module _ (l h i : ℕ) where
   in_range : (x : ℕ) (w : List ℕ) → Range (x % 32) l h → i ≡ l + index_in (x ∷ w) (slice l h spellings)
@@ -116,18 +108,42 @@ module _ (l h i : ℕ) where
       let n = length-take-le h spellings q.inside in
       e ∙ sym (front x w l (take h spellings) q.before (omega (arith, q.ordered)))
 
-  pub found_word : (w : List ℕ) → 0 < length w → Range (get_or w 0 0 % 32) l h → i ≡ l + index_in w (slice l h spellings)
+  found_word : (w : List ℕ) → 0 < length w → Range (get_or w 0 0 % 32) l h → i ≡ l + index_in w (slice l h spellings)
       → i < h → i ≡ index_in w spellings
   found_word [] s q e g = absurd (not-suc-le-zero s)
   found_word (x ∷ w) s q e g = let p = in_range x w q e in p ∙ found x w h spellings (omega arith)
 
-  pub missing_word : (w : List ℕ) → 0 < length w → Range (get_or w 0 0 % 32) l h → i ≡ l + index_in w (slice l h spellings)
+  missing_word : (w : List ℕ) → 0 < length w → Range (get_or w 0 0 % 32) l h → i ≡ l + index_in w (slice l h spellings)
       → h ≤ i → 100 ≡ index_in w spellings
   unfolding spellings
   missing_word [] s q e g = absurd (not-suc-le-zero s)
   missing_word (x ∷ w) s q e g = let p = in_range x w q e in missing x w h spellings q.after (omega arith)
 
-pub empty_word : (w : List ℕ) → length w ≡ 0 → 100 ≡ index_in w spellings
+-- ---- what a search among the names of its letter says of a word
+
+pub empty_word : (w : List ℕ) → length w ≡ 0 → None ≡ find_in w spellings
 unfolding bytes index_in same_word spellings
 empty_word [] h = refl
 empty_word (x ∷ w) h = absurd (omega arith)
+
+module _ {letters starts firsts : List ℕ} (t : Lent letters starts firsts) where
+  pub letter_range : (j : ℕ) → j < 32 → Range j (get_or firsts j 0) (get_or firsts (j + 1) 0)
+  unfolding bytes spellings
+  letter_range j s =
+      subst (λ (f : List ℕ). Range j (get_or f j 0) (get_or f (j + 1) 0)) (sym t.first) (range (firsts_from 0 32 spellings) j s refl)
+
+  module _ (w : List ℕ) (some : length w ≡ 0 → ⊥) {j : ℕ} (ej : j ≡ get_or w 0 0 % 32) (l h i : ℕ)
+      (q : Range j l h) (e : i ≡ l + index_in w (slice l h (cut starts letters))) where
+    abbrev searched : i ≡ l + index_in w (slice l h spellings)
+    searched = e ∙ ap (λ (ns : List (List ℕ)). l + index_in w (slice l h ns)) t.names
+
+    abbrev letter : Range (get_or w 0 0 % 32) l h
+    letter = subst (λ (k : ℕ). Range k l h) ej q
+
+    pub names_it : i < h → Some i ≡ find_in w spellings
+    unfolding spellings
+    names_it g = found-in w spellings (found_word l h i w (omega arith) letter searched g) (omega (arith, q.inside))
+
+    pub names-none : h ≤ i → None ≡ find_in w spellings
+    unfolding spellings
+    names-none g = missing-in w spellings (missing_word l h i w (omega arith) letter searched g) (omega arith)

@@ -1,5 +1,5 @@
--- Names as a table holds them: their letters one name after another, and where each name starts. Only the contracts of
--- `find_between` and `entry` cite it, and what `find_name` and its callers ask of the tables that they are lent.
+-- Names as a table holds them: their letters one name after another, and where each name starts. Only the contract of
+-- `find_between` cites it, and what `Names` says of the tables that it lends.
 use Rattle.std.specs.Prelude.{◌≡◌, Bool, true, cond, ◌&&◌, List, [], ◌∷◌, ℕ, zero, suc, ◌+◌, ◌-◌, ◌%◌, leb, ltb, length, take, drop, get_or}
 use Rattle.words.specs.Spellings.{spellings}
 
@@ -17,9 +17,6 @@ cut (a ∷ o) l = cut_from a o l
 abbrev pub in_order : ℕ → List ℕ → ℕ → Bool
 in_order a [] n = true
 in_order a (b ∷ o) n = leb a b && leb b n && in_order b o n
-
-pub record Entry (t : List ℕ) (i x : ℕ) : Type 0 where
-  pub is : x ≡ get_or t i 0
 
 -- how many names have a first letter whose number is below j, A and a being 1
 abbrev pub names_below : ℕ → List (List ℕ) → ℕ

@@ -4,8 +4,8 @@
 ghost use Rattle.std.specs.Prelude.{◌≡◌, true, ◌+◌, ◌<◌, ◌≤◌, eqb, length};
 ghost use Rattle.std.proofs.Math.Seq.{slice};
 ghost use Rattle.words.specs.Spellings.{all_letters, spellings, spelling_of};
-ghost use Rattle.words.specs.Words.{lower, same_word, index_in};
-ghost use Rattle.words.specs.Tables.{Entry, Lent, cut, in_order};
+ghost use Rattle.words.specs.Words.{lower, same_word, index_in, find_in};
+ghost use Rattle.words.specs.Tables.{Lent, cut, in_order};
 
 use actions::action_number;
 use names::ActionName;
@@ -169,26 +169,18 @@ pub fn spelling(letters: &[u8], a: ActionName) -> &[u8]
 }
 
 // Of A to Z the small letter.
+#[tactic(auto, unfolding(crate::specs::Words::lower))]
 fn lower_byte(b: u8) -> u8
     ensures { result ≡ lower b }
 {
-    if b < 65 {
-        return b;
-    }
-    if 90 < b {
-        return b;
-    }
-    b + 32
+    if matches!(b, b'A'..=b'Z') { b + 32 } else { b }
 }
 
 // Most words are written as the names are, so equal bytes are asked for first.
 fn same_letter(a: u8, b: u8) -> bool
     ensures { result ≡ eqb (lower a) (lower b) }
 {
-    if a == b {
-        return true;
-    }
-    lower_byte(a) == lower_byte(b)
+    a == b || lower_byte(a) == lower_byte(b)
 }
 
 // Whether two words are the same, case ignored.
@@ -198,12 +190,10 @@ pub fn same_word(w: &[u8], n: &[u8]) -> bool
     if w.len() != n.len() {
         return false;
     }
-    let mut i = 0;
-    while i < w.len() {
+    for i in 0..w.len() {
         if !same_letter(w[i], n[i]) {
             return false;
         }
-        i += 1;
     }
     true
 }
@@ -214,41 +204,35 @@ pub fn find_between(w: &[u8], letters: &[u8], starts: &[usize], lo: usize, hi: u
     requires lo_le_hi { (lo ≤ hi) × (hi < length starts.now) }
     ensures { result ≡ lo + index_in w.now (slice lo hi (cut starts.now letters.now)) }
 {
-    let mut k = lo;
-    while k < hi {
+    for k in lo..hi {
         let start = starts[k];
         let end = starts[k + 1];
         if same_word(w, &letters[start..end]) {
             return k;
         }
-        k += 1;
     }
-    k
+    hi
 }
 
-// A table's entry.
-fn entry(t: &[usize], i: usize) -> usize
-    requires { i < length t.now }
-    ensures { Entry t.now i result }
-{
-    t[i]
+// The tables of the 100 names. Who goes over a whole text lends them once: a constant is copied each time it is named.
+#[derive(Clone, Copy)]
+pub struct Names<'a> {
+    pub letters: &'a [u8],
+    pub starts: &'a [usize],
+    pub firsts: &'a [usize],
+    ghost lent: { Lent letters.now starts.now firsts.now },
 }
 
-// The number of the action that the word names, or 100. Only names with the word's first letter are looked at. Who goes over a whole
-// text lends the tables once: a constant is copied each time it is named.
-pub fn find_name(w: &[u8], letters: &[u8], starts: &[usize], firsts: &[usize]) -> usize
-    requires { Lent letters.now starts.now firsts.now }
-    ensures { result ≡ index_in w.now spellings }
+// The number of the action that the word names. Only names with the word's first letter are looked at.
+pub fn find_name(w: &[u8], names: &Names) -> Option<usize>
+    ensures { result ≡ find_in w.now spellings }
 {
-    if w.len() == 0 {
-        return 100;
+    if w.is_empty() {
+        return None;
     }
     let letter = (w[0] % 32) as usize;
-    let lo = entry(firsts, letter);
-    let hi = entry(firsts, letter + 1);
-    let i = find_between(w, letters, starts, lo, hi);
-    if i < hi {
-        return i;
-    }
-    100
+    let lo = names.firsts[letter];
+    let hi = names.firsts[letter + 1];
+    let i = find_between(w, names.letters, names.starts, lo, hi);
+    if i < hi { Some(i) } else { None }
 }

@@ -10,7 +10,7 @@ use Rattle.first_token.proofs.word_at.Goals as goal
 pub slice_bounds-word_kind-end : goal.slice_bounds-word_kind-end
 slice_bounds-word_kind-end c =
     let f = c in
-    simp length-take (omega (arith, c.word_end-e.ensures, run_fits is_word_byte f.args.s.now 1 f.requires.s_nonzero))
+    simp length-take (omega (arith, c.word_end-e.ensures, run_fits is_word_byte f.args.s.now 1 f.requires))
 
 pub returns : goal.returns
 unfolding word_at

@@ -1,27 +1,21 @@
 -- `keywords::named_kind` meets its contract. Assumes nothing.
-use borrow.Author.Rules.{rules}
 use mathlib.Core.Path.{ap, ◌∙◌}
+use native.Mathlib.Omega.{arith}
 use Rattle.tokens.specs.declared.TokenKind.TheVariants as K
 use Rattle.keywords.proofs.WordKinds as laws
 use Rattle.keywords.proofs.named_kind.Goals as goal
 
-pub returns-then-i-lt100 : goal.returns-then-i-lt100
-returns-then-i-lt100 c =
-    let i = c.find_name-i in
-    ap K.ActionName c.action_at.ensures
-    ∙ laws.action c.args.w.now i.result i.ensures c.if-i-lt100.true
+pub returns-in-Some : goal.returns-in-Some
+returns-in-Some c = ap K.ActionName c.action_at.ensures ∙ laws.action c.args.w.now c.in-Some.ensures
 
-pub returns-then-j-lt6 : goal.returns-then-j-lt6
-returns-then-j-lt6 c =
-    let j = c.find_keyword-j in
-    let i = c.find_name-i in
-    laws.keyword c.args.w.now i.result i.ensures
-    c.if-i-lt100.false
-    j.result j.ensures c.if-j-lt6.true
+pub offset_bounds-j : goal.offset_bounds-j
+offset_bounds-j c = omega (arith, laws.keyword_below c.args.w.now c.in-Some-find_keyword.ensures)
 
-pub returns : goal.returns
-returns c =
-    let j = c.find_keyword-j in
-    let i = c.find_name-i in
-    laws.identifier c.args.w.now i.result i.ensures c.if-i-lt100.false
-    j.result j.ensures c.if-j-lt6.false
+pub bounds-j-j : goal.bounds-j-j
+bounds-j-j c = laws.keyword_below c.args.w.now c.in-Some-find_keyword.ensures
+
+pub returns-in-Some-find_keyword : goal.returns-in-Some-find_keyword
+returns-in-Some-find_keyword c = laws.keyword c.args.w.now c.in_default.ensures c.in-Some-find_keyword.ensures
+
+pub returns-in-None : goal.returns-in-None
+returns-in-None c = laws.identifier c.args.w.now c.in_default.ensures c.in-None.ensures

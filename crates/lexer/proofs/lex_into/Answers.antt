@@ -4,7 +4,6 @@ use Rattle.words.specs.Spellings.{bytes, spellings}
 use Rattle.words.specs.Tables.{cut}
 use Rattle.lexer.proofs.lex_into.Goals as goal
 
-pub lex_all-requires : goal.lex_all-requires
+pub invariant_of-names : goal.invariant_of-names
 unfolding bytes cut spellings
-lex_all-requires c =
-    record { lent = record { names = refl; ordered = refl; long = refl; first = refl }; text_len_bound = c.requires }
+invariant_of-names c = record { lent = record { names = refl; ordered = refl; long = refl; first = refl } }

@@ -5,6 +5,6 @@ use Rattle.lexer.proofs.token_at.Goals as goal
 pub returns : goal.returns
 returns c =
     let f = c in (
-      at_byte f.args.text.now f.args.at f.requires.at_in_bounds _ c.first_token.ensures,
-      at-byte-fits f.args.text.now f.args.at f.requires.at_in_bounds _ c.first_token.ensures,
+      at_byte f.args.text.now f.args.at f.requires _ c.first_token.ensures,
+      at-byte-fits f.args.text.now f.args.at f.requires _ c.first_token.ensures,
     )

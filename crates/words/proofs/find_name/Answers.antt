@@ -1,67 +1,29 @@
 -- `words::find_name` meets its contract: the names with the word's first letter stand between the two entries. Assumes nothing.
-use borrow.Author.Rules.{rules}
-use mathlib.Core.Path.{◌≡◌, ap, ◌∙◌}
-use mathlib.Core.List.{List}
-use Prim.Native.Nat.{ℕ, ◌+◌, ◌%◌}
+use borrow.Author.Tests.{eqb-true, eqb-false}
+use mathlib.Core.Path.{refl, sym}
+use Prim.Native.Nat.{◌%◌}
 use native.Mathlib.Omega.{arith}
 use lib.ListN.{get_or}
-use lib.Seq.{slice}
-use Rattle.words.specs.Spellings.{spellings}
-use Rattle.words.specs.Words.{index_in}
 use Rattle.words.proofs.Letters as laws
 use Rattle.words.proofs.find_name.Goals as goal
 
-pub returns-then-w-eq0 : goal.returns-then-w-eq0
-returns-then-w-eq0 c =
-    laws.empty_word c.args.w.now c.if-w-eq0.true
+pub returns-then-is_empty : goal.returns-then-is_empty
+returns-then-is_empty c = laws.empty_word c.args.w.now (eqb-true _ 0 (sym c.if-is_empty.ensures))
 
-pub entry-lo-requires : goal.entry-lo-requires
-entry-lo-requires c = omega (arith, laws.firsts_long c.requires)
-
-pub entry-hi-requires : goal.entry-hi-requires
-entry-hi-requires c = omega (arith, laws.firsts_long c.requires)
-
-pub find_between-i-requires : goal.find_between-i-requires
-find_between-i-requires c =
-    let range : laws.Range
-    (get_or c.args.w.now 0 0 % 32)
-    c.entry-lo.result
-    c.entry-hi.result = laws.letter_range c.requires c.entry-lo.ensures c.entry-hi.ensures
-    (omega arith) in
-    let p = c.requires in
-    let q = range in
-    record { letters_value = p.ordered; lo_le_hi = (q.ordered, omega (arith, q.inside, p.long)) }
+pub find_between-i-requires-clause-lo_le_hi : goal.find_between-i-requires-clause-lo_le_hi
+find_between-i-requires-clause-lo_le_hi c =
+    let lent = c.args.names.now.lent in
+    let range = laws.letter_range lent (get_or c.args.w.now 0 0 % 32) (omega arith) in
+    (range.ordered, omega (arith, range.inside, lent.long))
 
 pub returns-then-i-hi : goal.returns-then-i-hi
 returns-then-i-hi c =
-    let range : laws.Range
-    (get_or c.args.w.now 0 0 % 32)
-    c.entry-lo.result
-    c.entry-hi.result = laws.letter_range c.requires c.entry-lo.ensures c.entry-hi.ensures
-    (omega arith) in
-    let searched : c.find_between-i.result
-    ≡ c.entry-lo.result
-    + index_in c.args.w.now
-    (slice c.entry-lo.result c.entry-hi.result spellings) = let f = c in
-    c.find_between-i.ensures
-    ∙ ap (λ (l : List (List ℕ)). c.entry-lo.result + index_in f.args.w.now (slice c.entry-lo.result c.entry-hi.result l))
-    f.requires.names in
-    let w = c.args.w.now in
-    laws.found_word _ _ _ w (omega arith) range searched c.if-i-hi.true
+    let lent = c.args.names.now.lent in
+    laws.names_it lent c.args.w.now (eqb-false _ 0 (sym c.if-is_empty.ensures)) refl _ _ _ (laws.letter_range lent (get_or c.args.w.now 0 0 % 32) (omega arith))
+    c.find_between-i.ensures c.if-i-hi.true
 
-pub returns : goal.returns
-returns c =
-    let range : laws.Range
-    (get_or c.args.w.now 0 0 % 32)
-    c.entry-lo.result
-    c.entry-hi.result = laws.letter_range c.requires c.entry-lo.ensures c.entry-hi.ensures
-    (omega arith) in
-    let searched : c.find_between-i.result
-    ≡ c.entry-lo.result
-    + index_in c.args.w.now
-    (slice c.entry-lo.result c.entry-hi.result spellings) = let f = c in
-    c.find_between-i.ensures
-    ∙ ap (λ (l : List (List ℕ)). c.entry-lo.result + index_in f.args.w.now (slice c.entry-lo.result c.entry-hi.result l))
-    f.requires.names in
-    let w = c.args.w.now in
-    laws.missing_word _ _ _ w (omega arith) range searched c.if-i-hi.false
+pub returns-else-i-hi : goal.returns-else-i-hi
+returns-else-i-hi c =
+    let lent = c.args.names.now.lent in
+    laws.names-none lent c.args.w.now (eqb-false _ 0 (sym c.if-is_empty.ensures)) refl _ _ _ (laws.letter_range lent (get_or c.args.w.now 0 0 % 32) (omega arith))
+    c.find_between-i.ensures c.if-i-hi.false

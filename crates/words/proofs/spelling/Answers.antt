@@ -1,5 +1,4 @@
 -- `words::spelling` meets its contract: the letters are cut where the name starts and where the next one does. Assumes nothing.
-use borrow.Author.Rules.{rules}
 use mathlib.Core.Path.{ap, ◌∙◌}
 use mathlib.Core.List.{List, [], flatten}
 use Prim.Native.Nat.{ℕ, ◌<◌}
