@@ -2,7 +2,7 @@
 use mathlib.Core.Path.{◌≡◌, refl, sym, ap, subst, ◌∙◌}
 use mathlib.Core.Bool.{Bool, true, false, cond}
 use mathlib.Core.List.{List, [], ◌∷◌}
-use Prim.Native.Nat.{ℕ, zero, suc, ◌+◌, ◌-◌, ◌*◌, ◌/◌, ◌%◌, ◌≤◌, ◌<◌}
+use Prim.Native.Nat.{ℕ, zero, suc, ◌+◌, ◌-◌, ◌*◌, ◌/◌, ◌%◌, ◌<◌}
 use native.Mathlib.Omega.{arith}
 use lib.Dec.{T, ltb}
 use lib.IntN.{ℤ, pos, negsuc, ◌+ℤ◌, nat_abs, sub_ℕ}
@@ -27,13 +27,6 @@ part-number (suc zero) a h = omega arith
 part-number (suc (suc zero)) a h = omega arith
 part-number (suc (suc (suc zero))) a h = omega arith
 part-number (suc (suc (suc (suc p)))) a h = absurd (omega arith)
-
--- the last block of the four stands for all numbers from 3 on
-pub last-number : (p a : ℕ) → 3 ≤ p → block_number (part_of p a) ≡ a * 4 + 4
-last-number zero a h = absurd (omega arith)
-last-number (suc zero) a h = absurd (omega arith)
-last-number (suc (suc zero)) a h = absurd (omega arith)
-last-number (suc (suc (suc p))) a h = refl
 
 pub number_back : (n : ℕ) → block_number (block_of n) ≡ n
 unfolding block_of

@@ -25,19 +25,16 @@ use Rattle.entries.specs.Levels.{Small, Small17, SmallNet}
 
 -- ---- blocks
 
-pub top : (n : ℕ) → n ≡ 0 → B.Top ≡ block_of n
+top : (n : ℕ) → n ≡ 0 → B.Top ≡ block_of n
 unfolding block_of
 top n e = simp e
 
-pub part : (n p : ℕ) (b : Block) → ¬ (n ≡ 0) → (n - 1) % 4 ≡ p → b ≡ part_of p ((n - 1) / 4) → b ≡ block_of n
+part : (n p : ℕ) (b : Block) → ¬ (n ≡ 0) → (n - 1) % 4 ≡ p → b ≡ part_of p ((n - 1) / 4) → b ≡ block_of n
 unfolding block_of
 part zero p b h e f = absurd (h refl)
 part (suc n) p b h e f =
     let a : suc n - 1 ≡ n = omega arith in
     f ∙ simp (sym e, a)
-
-pub last : (n : ℕ) → ¬ (n ≡ 0) → 3 ≤ (n - 1) % 4 → B.Finally ((n - 1) / 4) ≡ block_of n
-last n h e = part n 3 (B.Finally ((n - 1) / 4)) h (omega arith) refl
 
 pub block_back : (b : Block) → block_of (block_number b) ≡ b
 block_back B.Top = sym (top 0 refl)

@@ -66,9 +66,8 @@ pub struct Label {
 pub fn action_of(word: u64) -> Action
     ensures { result ≡ action_of word }
 {
-    let name = action_at((word / 2251799813685248) as usize);
     Action {
-        name,
+        name: action_at((word / 2251799813685248) as usize),
         level: (word / 17179869184 % 131072) as usize,
         first: (word / 131072 % 131072) as usize,
         count: (word % 131072) as usize,
@@ -85,6 +84,7 @@ pub fn operand_of(word: u64) -> Operand
     }
 }
 
+#[tactic(auto, unfolding(crate::specs::Entries::block_of))]
 fn block_of(number: u64) -> Block
     ensures { result ≡ block_of number }
 {
@@ -115,12 +115,10 @@ fn net_of(number: u64) -> Net
 pub fn level_of(word: u64, count: u64) -> Level
     ensures { result ≡ level_of word count }
 {
-    let block = block_of(word / 1099511627776 % 1048576);
-    let net = net_of(word % 1048576);
     Level {
-        block,
+        block: block_of(word / 1099511627776 % 1048576),
         actions: (word / 1048576 % 1048576) as usize,
-        net,
+        net: net_of(word % 1048576),
         unclosed: (count % 1048576) as usize,
     }
 }
@@ -139,7 +137,7 @@ pub fn label_of(word: u64) -> Label
 fn word_at(table: &[u64], at: usize) -> u64
     ensures { result ≡ get_or table.now at 0 }
 {
-    if at < table.len() { table[at] } else { 0 }
+    table.get(at).copied().unwrap_or(0)
 }
 
 // ---- the entry at a place of a table; past its end that of the word 0, for a level of two words 0
@@ -162,6 +160,7 @@ pub fn operand_in(table: &[u64], at: usize) -> Operand
     operand_of(word_at(table, at))
 }
 
+#[tactic(auto, unfolding(crate::specs::Entries::level_in, crate::specs::Entries::level_at))]
 pub fn level_in(table: &[u64], at: usize) -> Level
     ensures { result ≡ level_in table.now at }
 {
@@ -187,12 +186,12 @@ fn put(table: &mut [u64], at: usize, word: u64)
     }
 }
 
+#[tactic(auto, using(actions::proofs::Numbers::number_below))]
 pub fn put_action(table: &mut [u64], at: usize, action: Action)
     requires { ActionFits action }
     ensures { table.new ≡ set table.old at (action_word action) }
 {
-    let name = action.name;
-    let number = action_number(name) as u64;
+    let number = action_number(action.name) as u64;
     let level = action.level as u64;
     let first = action.first as u64;
     let count = action.count as u64;
@@ -203,19 +202,11 @@ pub fn put_action(table: &mut [u64], at: usize, action: Action)
     );
 }
 
-// The bit of an unclosed string.
-fn unclosed_bit(unclosed: bool) -> u64
-    ensures value { result ≡ unclosed_bit unclosed }
-    ensures upper_bound { result ≤ 1048576 }
-{
-    if unclosed { 1048576 } else { 0 }
-}
-
 pub fn put_operand(table: &mut [u64], at: usize, operand: Operand)
     requires { OperandFits operand }
     ensures { table.new ≡ set table.old at (operand_word operand) }
 {
-    let bit = unclosed_bit(operand.unclosed);
+    let bit = u64::from(operand.unclosed) * 1048576;
     put(
         table,
         at,
@@ -248,33 +239,37 @@ fn put_level(table: &mut [u64], at: usize, word: u64, count: u64)
     put(table, 2 * at + 1, count);
 }
 
-pub fn open_top(table: &mut [u64])
-    ensures { table.new ≡ sets table.old 0 (level_words (fresh B.Top)) }
+// The action that owns a block; the top level has none, and counts as owned by 0.
+pub fn owner_of(block: Block) -> usize
+    ensures { result ≡ owner_of block }
 {
-    put_level(table, 0, 196608, 0);
+    match block {
+        Block::Top => 0,
+        Block::Body(a) | Block::Try(a) | Block::Catch(a) | Block::Finally(a) => a,
+    }
 }
 
-// The number of an action's body, try, catch or finally block.
-fn block_number(part: u64, action: usize) -> u64
-    requires { Small action }
-    ensures { (result ≡ block_number (part_of part action)) × (result ≤ 4194304) }
+// The number of a block: the four of an action in their order, the top level's below them.
+fn block_number(block: Block) -> u64
+    requires { Small (owner_of block) }
+    ensures { (result ≡ block_number block) × (result ≤ 4194304) }
 {
-    let before = action as u64 * 4;
-    match part {
-        0 => before + 1,
-        1 => before + 2,
-        2 => before + 3,
-        _ => before + 4,
+    let before = owner_of(block) as u64 * 4;
+    match block {
+        Block::Top => 0,
+        Block::Body(_) => before + 1,
+        Block::Try(_) => before + 2,
+        Block::Catch(_) => before + 3,
+        Block::Finally(_) => before + 4,
     }
 }
 
 // A level at its opening brace: no action yet, height 0.
-pub fn open_level(table: &mut [u64], at: usize, part: u64, action: usize)
-    requires { Small at × Small action }
-    ensures { table.new ≡ sets table.old (2 * at) (level_words (fresh (part_of part action))) }
+pub fn open_level(table: &mut [u64], at: usize, block: Block)
+    requires { Small at × Small (owner_of block) }
+    ensures { table.new ≡ sets table.old (2 * at) (level_words (fresh block)) }
 {
-    let block = block_number(part, action);
-    put_level(table, at, block * 1099511627776 + 196608, 0);
+    put_level(table, at, block_number(block) * 1099511627776 + 196608, 0);
 }
 
 // The level at a place of a table that is being written.
@@ -286,35 +281,13 @@ pub fn level_at(table: &[u64], at: usize) -> Level
     level_of(word_at(table, 2 * at), word_at(table, 2 * at + 1))
 }
 
-// The action that owns a block; the top level has none, and counts as owned by 0.
-pub fn owner_of(block: Block) -> usize
-    ensures { result ≡ owner_of block }
-{
-    match block {
-        Block::Top => 0,
-        Block::Body(a) => a,
-        Block::Try(a) => a,
-        Block::Catch(a) => a,
-        Block::Finally(a) => a,
-    }
-}
-
-// The number of a height, which is given 393,216 higher so that it has no sign: how far it lies above the lowest, -196,608, or 0.
-fn above_lowest(height: u64) -> u64
-    ensures { result ≡ height - 196608 }
-{
-    if height < 196608 {
-        return 0;
-    }
-    height - 196608
-}
-
+// The number of a net: a height's is how far it lies above the lowest, -196,608, or 0.
 fn net_number(net: Net) -> u64
     requires { NetFits net }
     ensures { (result ≡ net_number net) × Small result }
 {
     match net {
-        Net::Height(h) => above_lowest((h + 393216) as u64),
+        Net::Height(h) => ((h + 393216) as u64).saturating_sub(196608),
         Net::Undetermined(a) => 524288 + a as u64,
     }
 }

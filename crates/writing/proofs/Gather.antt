@@ -1,10 +1,12 @@
 -- `give_operands`: the operands of an action, gathered from the events behind it. Assumes nothing.
 use mathlib.Core.Path.{◌≡◌, refl, sym, ap, ◌∙◌}
 use mathlib.Core.Bool.{Bool, true, false, cond}
+use mathlib.Core.Logic.{◌⊎◌, inl, inr}
 use mathlib.Core.List.{List, [], ◌∷◌, map}
 use Prim.Native.Nat.{ℕ, zero, suc, ◌+◌, ◌≤◌, ◌<◌}
 use native.Mathlib.Numerals.{add-one}
 use native.Mathlib.Omega.{arith}
+use mir.Val.{bool_byte}
 use lib.ListN.{length, drop, get_or, set, drop_of_length-le, length-set}
 use lib.Seq.{sets, drop-cons}
 use borrow.Author.Tests.{eq-eqb, ne_eqb}
@@ -58,12 +60,14 @@ at_most : (b : Bool) → cond b 1 0 ≤ 1
 at_most true = omega arith
 at_most false = omega arith
 
--- the count behind an operand: one more if it is unclosed
-pub one_more : (u v : ℕ) (b : Bool) → b ≡ true → v ≡ u + 1 → v ≡ u + cond b 1 0
-one_more u v b e h = h ∙ ap (λ (q : Bool). u + cond q 1 0) (sym e)
+pub flag_at_most : (b : Bool) → bool_byte b ≤ 1
+flag_at_most true = omega arith
+flag_at_most false = omega arith
 
-pub no_more : (u v : ℕ) (b : Bool) → b ≡ false → v ≡ u → v ≡ u + cond b 1 0
-no_more u v b e h = h ∙ omega arith ∙ ap (λ (q : Bool). u + cond q 1 0) (sym e)
+-- the count behind an operand: one more if it is unclosed
+pub one_more : (u r : ℕ) (b : Bool) → r ≡ bool_byte b → u + r ≡ u + cond b 1 0
+one_more u r true h = omega arith
+one_more u r false h = omega arith
 
 -- none left
 finish : (s log : List ℕ) (from a at : ℕ) (old new : List ℕ) (d end u i : ℕ) → Giving s log from a at old new d end u i → gather d (drop i log) ≡ []
@@ -141,8 +145,13 @@ module _ (s log : List ℕ) (from a at : ℕ) (old new : List ℕ) (d end u i : 
       pub opens : (p : ℕ) → v ≡ E.Opened p → (p ≡ 1 → ⊥) → Gave s log from a at old new end u
       opens p f n = ended (by (E.Opened p) f ∙ ap (λ b. cond b (gather 1 (drop (i + 1) log)) []) (ne_eqb p 1 n))
 
-      pub stops : (q : Event) → v ≡ q → gather_by q (gather 0 (drop (i + 1) log)) (gather 1 (drop (i + 1) log)) ≡ [] → Gave s log from a at old new end u
+      stops : (q : Event) → v ≡ q → gather_by q (gather 0 (drop (i + 1) log)) (gather 1 (drop (i + 1) log)) ≡ [] → Gave s log from a at old new end u
       stops q f n = ended (by q f ∙ n)
+
+      pub others : ((x : ℕ) × (v ≡ E.Action x)) ⊎ (((x : ℕ) × (v ≡ E.Label x)) ⊎ (v ≡ E.Closed)) → Gave s log from a at old new end u
+      others (inl p) = stops (E.Action p.0) p.1 refl
+      others (inr (inl p)) = stops (E.Label p.0) p.1 refl
+      others (inr (inr e)) = stops E.Closed e refl
 
 pub ends : (s log : List ℕ) (from a at : ℕ) (old new : List ℕ) (d end u i : ℕ) → Giving s log from a at old new d end u i → length log ≤ i
     → Gave s log from a at old new end u

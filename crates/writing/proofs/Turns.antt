@@ -1,6 +1,7 @@
 -- What each call that writes an event leaves. Assumes nothing.
-use mathlib.Core.Path.{◌≡◌, sym, ap, subst, ◌∙◌}
+use mathlib.Core.Path.{◌≡◌, refl, sym, ap, subst, ◌∙◌}
 use mathlib.Core.Bool.{Bool}
+use mathlib.Core.Logic.{◌⊎◌, inl, inr}
 use mathlib.Core.List.{List, ◌∷◌, map}
 use Prim.Native.Nat.{ℕ, ◌+◌, ◌-◌, ◌*◌, ◌≤◌, ◌<◌}
 use native.Mathlib.Numerals.{add-one}
@@ -9,6 +10,7 @@ use lib.ListN.{length, drop, get_or, set, drop_of_length-le}
 use lib.Seq.{sets, drop-cons}
 use Rattle.names.specs.declared.ActionName.{ActionName}
 use Rattle.events.specs.declared.Event.{Event}
+use Rattle.events.specs.declared.Event.TheVariants as E
 use Rattle.events.specs.Log.{event_of}
 use Rattle.entries.specs.declared.Action.{Action}
 use Rattle.entries.specs.declared.Net.{Net}
@@ -69,6 +71,12 @@ closed_is xs os ls w r er = λ j. record { actions = xs; operands = os; levels =
 pub arm : (text s : List ℕ) (w : ℕ) (v u : Event) (rest : List ℕ) (T U : Written) → v ≡ event_of w → v ≡ u → U ≡ by text s u rest T → U ≡ step text s w rest T
 unfolding step
 arm text s w v u rest T U e f h = h ∙ ap (λ q. by text s q rest T) (sym f ∙ e)
+
+-- labels and operands write nothing by themselves
+pub idle : (text s : List ℕ) (w : ℕ) (v : Event) (rest : List ℕ) (T : Written) → v ≡ event_of w
+    → ((x : ℕ) × (v ≡ E.Label x)) ⊎ ((x : ℕ) × (v ≡ E.Operand x)) → T ≡ step text s w rest T
+idle text s w v rest T e (inl p) = arm text s w v (E.Label p.0) rest T T e p.1 refl
+idle text s w v rest T e (inr p) = arm text s w v (E.Operand p.0) rest T T e p.1 refl
 
 -- ---- how far the writer gets
 

@@ -4,12 +4,13 @@
 
 ghost use Rattle.std.specs.Prelude.{◌≡◌, ◌+◌, ◌≤◌, ◌<◌, map, length, drop, get_or, set};
 ghost use Rattle.std.proofs.lemmas.List.Edits.{sets};
+ghost use Rattle.entries.specs.Entries.{part_of};
 ghost use Rattle.entries.specs.Levels.{Small};
 ghost use Rattle.writing.specs.Writing.{deeper, gather, unclosed_at, unclosed_of, given, Behind, written, moved_level, acted, opening, opened_in, closing, step, Writes};
 
 use actions::action_at;
 use entries::{
-    Action, Operand, action_in, add_action, level_at, open_level, open_top, owner_of, put_action,
+    Action, Block, Operand, action_in, add_action, level_at, open_level, owner_of, put_action,
     put_operand,
 };
 use events::{Event, event_of};
@@ -33,22 +34,18 @@ fn deeper(event: Event, depth: usize) -> usize
     ensures { (result ≡ deeper event depth) × (result ≤ depth + 1) }
 {
     match event {
-        Event::Action(_) => depth,
-        Event::Label(_) => depth,
-        Event::Operand(_) => depth,
+        Event::Action(_) | Event::Label(_) | Event::Operand(_) => depth,
         Event::Opened(_) => depth + 1,
         Event::Closed => depth - 1,
     }
 }
 
 // Whether the token at a place is a string without its closing quote.
+#[tactic(auto, unfolding(crate::specs::Writing::unclosed_at))]
 fn is_unclosed_at(s: &[u64], token: usize) -> bool
     ensures { result ≡ unclosed_at s.now token }
 {
-    if token < s.len() {
-        return is_unclosed(s[token]);
-    }
-    false
+    is_unclosed(s.get(token).copied().unwrap_or(0))
 }
 
 // Writes an operand of an action; whether it is an unclosed string.
@@ -57,22 +54,14 @@ fn give_operand(s: &[u64], token: usize, action: usize, at: usize, operands: &mu
     ensures operands_after { operands.new ≡ set operands.old at (given s.now action token) }
     ensures value { result ≡ unclosed_at s.now token }
 {
-    if is_unclosed_at(s, token) {
-        let operand = Operand {
-            action,
-            token,
-            unclosed: true,
-        };
-        put_operand(operands, at, operand);
-        return true;
-    }
+    let unclosed = is_unclosed_at(s, token);
     let operand = Operand {
         action,
         token,
-        unclosed: false,
+        unclosed,
     };
     put_operand(operands, at, operand);
-    false
+    unclosed
 }
 
 // The place behind an action's operands, and how many of them are unclosed strings.
@@ -101,32 +90,21 @@ fn give_operands(
     let mut depth = 0;
     let mut end = at;
     let mut unclosed = 0;
-    let mut i = from;
-    while i < log.len() {
+    for i in from..log.len() {
         let event = event_of(log[i]);
-        i += 1;
         if 0 < depth {
             depth = deeper(event, depth);
             continue;
         }
         match event {
             Event::Operand(token) => {
-                if give_operand(s, token as usize, action, end, operands) {
-                    unclosed += 1;
-                }
+                let is_unclosed = give_operand(s, token as usize, action, end, operands);
+                unclosed += usize::from(is_unclosed);
                 end += 1;
-                continue;
             }
-            Event::Opened(part) => {
-                if part != 1 {
-                    return Given { end, unclosed };
-                }
-                depth = 1;
-                continue;
-            }
-            Event::Action(_) => return Given { end, unclosed },
-            Event::Label(_) => return Given { end, unclosed },
-            Event::Closed => return Given { end, unclosed },
+            Event::Opened(1) => depth = 1,
+            Event::Opened(_) => return Given { end, unclosed },
+            Event::Action(_) | Event::Label(_) | Event::Closed => return Given { end, unclosed },
         }
     }
     Given { end, unclosed }
@@ -190,12 +168,24 @@ fn act(
     }
 }
 
+// The block of an action that an event opens: its body, try, catch or finally block.
+fn block_of(part: u64, action: usize) -> Block
+    ensures { result ≡ part_of part action }
+{
+    match part {
+        0 => Block::Body(action),
+        1 => Block::Try(action),
+        2 => Block::Catch(action),
+        _ => Block::Finally(action),
+    }
+}
+
 fn open(part: u64, w: Writer, levels: &mut [u64]) -> Writer
     requires { Behind 65536 w }
     ensures value { result ≡ opening w }
     ensures levels_after { levels.new ≡ opened_in levels.old w part }
 {
-    open_level(levels, w.levels, part, w.action);
+    open_level(levels, w.levels, block_of(part, w.action));
     Writer {
         level: w.levels,
         action: w.action,
@@ -212,8 +202,7 @@ fn close(w: Writer, actions: &[u64], levels: &[u64]) -> Writer
     ensures small { Small result.level × Small result.action }
 {
     let held = level_at(levels, w.level);
-    let block = held.block;
-    let owner = owner_of(block);
+    let owner = owner_of(held.block);
     let action = action_in(actions, owner);
     Writer {
         level: action.level,
@@ -245,8 +234,7 @@ fn write_event(
             let name = action_at(number as usize);
             act(text, s, log, i + 1, name, w, actions, operands, levels)
         }
-        Event::Label(_) => w,
-        Event::Operand(_) => w,
+        Event::Label(_) | Event::Operand(_) => w,
         Event::Opened(part) => open(part, w, levels),
         Event::Closed => close(w, actions, levels),
     }
@@ -264,7 +252,7 @@ pub fn write_tables(
     requires { length log.now ≤ 65536 }
     ensures { Writes text.now s.now log.now actions.old operands.old levels.old actions.new operands.new levels.new }
 {
-    open_top(levels);
+    open_level(levels, 0, Block::Top);
     let mut w = Writer {
         level: 0,
         action: 0,
@@ -272,9 +260,7 @@ pub fn write_tables(
         operands: 0,
         levels: 1,
     };
-    let mut i = 0;
-    while i < log.len() {
+    for i in 0..log.len() {
         w = write_event(text, s, log, i, w, actions, operands, levels);
-        i += 1;
     }
 }

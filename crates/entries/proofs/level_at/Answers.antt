@@ -1,5 +1,4 @@
 -- `entries::level_at` meets its contract. Assumes nothing.
-use borrow.Author.Rules.{rules}
 use mathlib.Core.Path.{sym, subst, ◌∙◌}
 use Rattle.entries.specs.Entries.{level_of, level_at}
 use Rattle.entries.specs.Levels.{SmallLevel}

@@ -23,7 +23,7 @@ overflow_add-result c =
 pub returns-in-Height : goal.returns-in-Height
 returns-in-Height c =
     let fits : SFits w64 c.in-Height.h = search rules in
-    height-number _ (fits) _ c.in-Height.is c.requires c.above_lowest.ensures
+    height-number _ (fits) _ c.in-Height.is c.requires c.saturating_sub.ensures
 
 pub returns-in-Undetermined : goal.returns-in-Undetermined
 returns-in-Undetermined c =

@@ -1,5 +1,4 @@
 -- `entries::net_of` meets its contract. Assumes nothing.
-use borrow.Author.Rules.{rules}
 use Prim.Native.Nat.{◌-◌}
 use native.Mathlib.Omega.{arith}
 use Rattle.entries.proofs.Words.{neg_fits, negative, positive, undetermined}

@@ -1,10 +1,10 @@
 -- `writing::write_event` meets its contract. Assumes nothing.
-use mathlib.Core.Path.{refl, ap, ◌∙◌}
+use mathlib.Core.Path.{ap, ◌∙◌}
 use Prim.Native.Nat.{◌+◌}
 use native.Mathlib.Omega.{arith}
 use lib.ListN.{drop}
 use Rattle.writing.specs.Writing.{acted, written}
-use Rattle.writing.proofs.Turns.{opened-is, closed_is, arm, wider, widest, acts-small, stays_small, opens_small, closes_small}
+use Rattle.writing.proofs.Turns.{opened-is, closed_is, arm, idle, wider, widest, acts-small, stays_small, opens_small, closes_small}
 use Rattle.writing.proofs.write_event.Goals as goal
 
 pub act-requires : goal.act-requires
@@ -26,12 +26,7 @@ returns-in-Action c =
 pub returns-in-Label : goal.returns-in-Label
 returns-in-Label c =
     let p = c.requires in
-    record { result_after = arm _ _ _ _ _ _ _ _ c.event_of-event.ensures.value c.in-Label.is refl; behind = stays_small _ _ p.1.1 (omega (arith, p.0, p.1.0)) }
-
-pub returns-in-Operand : goal.returns-in-Operand
-returns-in-Operand c =
-    let p = c.requires in
-    record { result_after = arm _ _ _ _ _ _ _ _ c.event_of-event.ensures.value c.in-Operand.is refl; behind = stays_small _ _ p.1.1 (omega (arith, p.0, p.1.0)) }
+    record { result_after = idle _ _ _ _ _ _ c.event_of-event.ensures.value c.in-Label.is; behind = stays_small _ _ p.1.1 (omega (arith, p.0, p.1.0)) }
 
 pub returns-in-Opened : goal.returns-in-Opened
 returns-in-Opened c =

@@ -36,7 +36,7 @@ shape_of-operands c =
 
 pub shape_of-levels : goal.shape_of-levels
 shape_of-levels c =
-    c.loop-i.invariant.levels-long ∙ ap length c.open_top.ensures ∙ simp length-set
+    c.loop-i.invariant.levels-long ∙ ap length c.open_level.ensures ∙ simp length-set
 
 pub returns : goal.returns
 returns c =
@@ -45,5 +45,5 @@ returns c =
       at = _;
       all =
           ended _ _ _ _ _ _ _ _ _ _ _ _ c.loop-i.invariant c.loop-i-test.false
-          ∙ ap (λ l. steps a.text.now a.s.now a.log.now (written a.actions.now a.operands.now l (record { level = 0; action = 0; actions = 0; operands = 0; levels = 1 }))) c.open_top.ensures;
+          ∙ ap (λ l. steps a.text.now a.s.now a.log.now (written a.actions.now a.operands.now l (record { level = 0; action = 0; actions = 0; operands = 0; levels = 1 }))) c.open_level.ensures;
     }

@@ -1,8 +1,0 @@
--- `entries::word_at` meets its contract. Assumes nothing.
-use borrow.Author.Rules.{rules}
-use mathlib.Core.Path.{sym}
-use lib.ListN.{get_or-eq_default}
-use Rattle.entries.proofs.word_at.Goals as goal
-
-pub returns-else-at-table : goal.returns-else-at-table
-returns-else-at-table c = sym (get_or-eq_default c.args.table.now 0 c.if-at-table.false)
