@@ -5,18 +5,17 @@ use mathlib.Core.List.{List}
 use Prim.Native.Nat.{ℕ, zero, suc, ◌+◌, ◌-◌, ◌≤◌, ◌<◌}
 use native.Mathlib.Nat.{zero-add}
 use native.Mathlib.Omega.{arith}
-use lib.Dec.{ltb}
 use lib.IntN.{pos}
-use lib.Ieee.{fin}
+use lib.Ieee.{fin, neg, of_bits, binary64}
 use lib.ListN.{length, take, drop, get_or, length-drop}
 use lib.Seq.{take_all}
-use borrow.Author.Tests.{eq-eqb, ne_eqb, le-leb, lt-leb, lt-ltb, le-ltb}
+use borrow.Author.Tests.{eq-eqb, ne_eqb, le-leb, lt-leb}
 use Rattle.std.specs.Prelude.{Option, Some, None}
 use Rattle.scanner.specs.Ends.{sign_end}
 use Rattle.scanner.proofs.Runs.{inside}
 use Rattle.scanner.proofs.Ends.{Within, digits_within, point_within, sign_within}
 use Rattle.numbers.specs.Integers.{is_minus, has_minus, minus_end, is_natural, value_of, up_to}
-use Rattle.numbers.specs.Doubles.{whole_end, mantissa_end, fraction_digits, has_digit, is_e, is_exponent, is_number, w, exponent, exponent_has_minus, up, down, scaled, signed, is_short, double_of, double}
+use Rattle.numbers.specs.Doubles.{whole_end, mantissa_end, fraction_digits, is_e, is_exponent, is_number, w, exponent, exponent_has_minus, up, down, scaled, signed, is_short, double_of, double}
 use Rattle.numbers.specs.declared.Double.{Double}
 use Rattle.numbers.specs.declared.Double.TheVariants as D
 use Rattle.numbers.proofs.Integers.{minus_within, told, untold}
@@ -35,27 +34,6 @@ module _ (s : List ℕ) where
   pub fraction_fits : fraction_digits s ≤ length s
   unfolding fraction_digits
   fraction_fits = omega (arith, mantissa_within.to)
-
-  module _ (a e : ℕ) (ea : a ≡ whole_end s) (ee : e ≡ mantissa_end s) where
-    pub no_fraction : e ≡ a → 0 ≡ fraction_digits s
-    unfolding fraction_digits
-    no_fraction h = omega arith
-
-    pub behind_whole : (e ≡ a → ⊥) → a < e
-    behind_whole h = omega (arith, mantissa_within.from)
-
-    pub a_fraction : a < e → e - a - 1 ≡ fraction_digits s
-    unfolding fraction_digits
-    a_fraction h = omega arith
-
-  module _ (m a : ℕ) (em : m ≡ minus_end s) (ea : a ≡ whole_end s) where
-    pub whole_digit : m < a → true ≡ has_digit s
-    unfolding has_digit
-    whole_digit h = simp (← em, ← ea, lt-ltb m a h)
-
-    pub fraction_digit : a ≤ m → (f : ℕ) → f ≡ fraction_digits s → ltb 0 f ≡ has_digit s
-    unfolding has_digit
-    fraction_digit h f e = simp (← em, ← ea, le-ltb m a h, e)
 
   module _ (i : ℕ) (t : Bool) (at : t ≡ is_e (get_or s i 0)) where
     pub no_exponent : t ≡ false → false ≡ is_exponent s i
@@ -79,20 +57,13 @@ module _ (s : List ℕ) where
       an_exponent m r em e =
           e ∙ ap is_natural (take_all (length s - m) (drop m s) (omega (arith, length-drop m s))) ∙ simp (← at, h, em)
 
-  pub no_digit : has_digit s ≡ false → false ≡ is_number s
-  unfolding is_number
-  no_digit h = simp h
-
-  module _ (h : has_digit s ≡ true) (e : ℕ) (ee : e ≡ mantissa_end s) where
-    pub ends_there : e ≡ length s → true ≡ is_number s
-    unfolding is_number
-    ends_there g = simp (h, ← ee, eq-eqb e (length s) g)
-
-    pub goes_on : (e ≡ length s → ⊥) → (r : Bool) → r ≡ is_exponent s e → r ≡ is_number s
-    unfolding is_number
-    goes_on g r q = q ∙ simp (h, ← ee, ne_eqb e (length s) g)
-
 -- ---- the double
+
+-- 0 with its sign
+pub signed_zero : (negative : Bool) → signed negative (of_bits binary64 0) ≡ fin negative 0 (pos 0)
+unfolding neg of_bits
+signed_zero true = refl
+signed_zero false = refl
 
 module _ (negative : Bool) (n u d : ℕ) where
   pub is_zero : n ≡ 0 → D.Is (fin negative 0 (pos 0)) ≡ double_of negative n u d

@@ -1,38 +1,20 @@
 -- Digits one after another, and whole numbers by what was tested. Assumes nothing.
-use mathlib.Core.Path.{◌≡◌, refl, sym, ap, subst, ◌∙◌}
-use mathlib.Core.Bool.{Bool, true, false, cond, and-eq-true_iff}
+use mathlib.Core.Path.{◌≡◌, refl, sym, ap, ◌∙◌}
+use mathlib.Core.Bool.{Bool, true, false, cond}
 use mathlib.Core.List.{List, [], ◌∷◌}
-use Prim.Native.Nat.{ℕ, zero, suc, ◌+◌, ◌*◌, ◌-◌, ◌≤◌, ◌<◌}
+use Prim.Native.Nat.{ℕ, ◌+◌, ◌*◌, ◌-◌, ◌≤◌, ◌<◌}
 use native.Mathlib.Numerals.{add-one}
 use native.Mathlib.Omega.{arith}
-use lib.Dec.{eqb, leb}
-use lib.IntN.{pos, neg_ℤ, ◌-ℤ◌}
+use lib.Dec.{leb}
 use lib.ListN.{length, take, drop, get_or, drop_of_length-le, length-drop}
 use lib.Seq.{drop-cons, take_all}
-use lib.Signed.{mag}
-use mir.Syntax.{w32, w64}
-use mir.Val.{SFits, to_z, of_z}
-use mir.ValLaws.{to_z_pos, to_z-of_z}
-use borrow.Author.Tests.{le-leb, lt-leb, leb-true, leb-false, lt-ltb, le-ltb, eqb-true}
+use borrow.Author.Tests.{le-leb, lt-leb, leb-true, leb-false, eqb-true}
 use Rattle.std.specs.Prelude.{Option, Some, None}
-use Rattle.laws.proofs.Integers.{zero_sub}
 use Rattle.scanner.specs.Bytes.{is_digit}
-use Rattle.scanner.specs.Ends.{digits_end}
 use Rattle.scanner.proofs.Runs.{inside}
 use Rattle.numbers.specs.Integers.{with_byte, value_from, value_of, up_to, is_natural, natural, has_minus, minus_end, largest, with_sign, integer}
 
-pub digit_range : (b : ℕ) → is_digit b ≡ true → (48 ≤ b) × (b ≤ 57)
-digit_range b e = let p = (and-eq-true_iff (leb 48 b) (leb b 57)).0 e in (leb-true 48 b p.0, leb-true b 57 p.1)
-
 module _ (n b : ℕ) where
-  pub other_byte : is_digit b ≡ false → n ≡ with_byte n b
-  unfolding with_byte
-  other_byte e = simp e
-
-  pub digit : is_digit b ≡ true → n * 10 + (b - 48) ≡ with_byte n b
-  unfolding with_byte
-  digit e = simp e
-
   byte_grows : n ≤ with_byte n b
   unfolding with_byte
   byte_grows = by (is_digit b)
@@ -85,14 +67,6 @@ module _ (top n : ℕ) where
       by false p e = leb-false n top p
 
 module _ (top : ℕ) (s : List ℕ) where
-  pub no_natural : is_natural s ≡ false → None ≡ natural top s
-  unfolding natural
-  no_natural e = simp e
-
-  pub a_natural : is_natural s ≡ true → (r : Option ℕ) → r ≡ up_to top (value_of s) → r ≡ natural top s
-  unfolding natural
-  a_natural e r h = h ∙ simp e
-
   pub natural-small : (k : ℕ) → natural top s ≡ Some k → k ≤ top
   unfolding natural
   natural-small k e = by (is_natural s) e
@@ -100,28 +74,6 @@ module _ (top : ℕ) (s : List ℕ) where
       by : (t : Bool) → cond t (up_to top (value_of s)) None ≡ Some k → k ≤ top
       by true e = (told top (value_of s) k e).1
       by false e = let z : ◌≡◌ {A = ℕ} 0 1 = cc in omega arith
-
--- ---- a minus: u64 to i64, taken from 0, to i32
-
-neg_small : (n : ℕ) → n ≤ 2147483648 → mag (neg_ℤ (pos n)) < 2147483648
-neg_small zero g = omega arith
-neg_small (suc n) g = omega arith
-
-module _ (n : ℕ) (h : n ≤ 2147483648) where
-  taken : pos 0 -ℤ to_z w64 n ≡ neg_ℤ (pos n)
-  taken = ap (λ z. pos 0 -ℤ z) (to_z_pos w64 n (omega arith)) ∙ zero_sub n
-
-  pub neg_fits_64 : SFits w64 (pos 0 -ℤ to_z w64 n)
-  neg_fits_64 = subst (SFits w64) (sym taken) (record { sfits = omega (arith, neg_small n h) })
-
-  neg_is : to_z w64 (of_z w64 (pos 0 -ℤ to_z w64 n)) ≡ neg_ℤ (pos n)
-  neg_is = to_z-of_z w64 (pos 0 -ℤ to_z w64 n) neg_fits_64 ∙ taken
-
-  pub neg_fits_32 : SFits w32 (to_z w64 (of_z w64 (pos 0 -ℤ to_z w64 n)))
-  neg_fits_32 = subst (SFits w32) (sym neg_is) (record { sfits = neg_small n h })
-
-  pub negated : to_z w32 (of_z w32 (to_z w64 (of_z w64 (pos 0 -ℤ to_z w64 n)))) ≡ neg_ℤ (pos n)
-  negated = to_z-of_z w32 (to_z w64 (of_z w64 (pos 0 -ℤ to_z w64 n))) neg_fits_32 ∙ neg_is
 
 module _ (s : List ℕ) where
   pub minus_within : minus_end s ≤ length s
@@ -141,16 +93,3 @@ module _ (s : List ℕ) where
     pub signed_or_none : (x y : Option ℕ) → x ≡ natural top (take (length s - m) (drop m s)) → x ≡ y → with_sign t y ≡ integer s
     unfolding integer
     signed_or_none x y ex e = ap (with_sign t) (sym e ∙ ex ∙ told-by) ∙ simp et
-
-module _ (s : List ℕ) where
-  pub no_bytes : length s ≡ 0 → false ≡ is_natural s
-  unfolding is_natural
-  no_bytes h = simp (le-ltb 0 (length s) (omega arith))
-
-  pub all_digits : 0 < length s → (e : ℕ) → e ≡ digits_end s 0 → eqb e (length s) ≡ is_natural s
-  unfolding is_natural
-  all_digits h e p = simp (lt-ltb 0 (length s) h, p)
-
-pub largest-small : (t : Bool) → largest t ≤ 2147483648
-largest-small true = omega arith
-largest-small false = omega arith

@@ -1,8 +1,7 @@
 // What a number's text is worth: u8, u16 and i32 as Rust parses them, and the double, to the bit or Long.
 #![tactic(auto)]
 
-ghost use Rattle.std.specs.Prelude.{◌≡◌, ◌+◌, ◌≤◌, ◌<◌, pos, length, get_or};
-ghost use Rattle.std.specs.Float.{fin};
+ghost use Rattle.std.specs.Prelude.{◌≡◌, ◌+◌, ◌≤◌, ◌<◌, length, get_or};
 ghost use Rattle.numbers.specs.Integers.{with_byte, value_of, up_to, is_natural, natural, is_minus, has_minus, minus_end, largest, signed_number, integer};
 ghost use Rattle.numbers.specs.Doubles.{whole_end, mantissa_end, fraction_digits, has_digit, is_e, is_exponent, is_number, ten, scaled, signed, exponent, up, down, double_of, double};
 
@@ -14,6 +13,7 @@ pub enum Double {
 }
 
 // A digit put behind the number n; any other byte changes nothing.
+#[tactic(auto, unfolding(crate::specs::Integers::with_byte))]
 fn with_byte(n: u64, b: u8) -> u64
     requires { n ≤ 9007199254740992 }
     ensures { result ≡ with_byte n b }
@@ -40,16 +40,15 @@ fn number_up_to(top: u64, s: &[u8]) -> Option<u64>
 }
 
 // One or more digits and nothing else.
+#[tactic(auto, unfolding(crate::specs::Integers::is_natural))]
 fn is_natural(s: &[u8]) -> bool
     ensures { result ≡ is_natural s.now }
 {
-    if s.len() == 0 {
-        return false;
-    }
-    scanner::digits_end(s, 0) == s.len()
+    !s.is_empty() && scanner::digits_end(s, 0) == s.len()
 }
 
 // A number without a sign, if it is at most `top`.
+#[tactic(auto, unfolding(crate::specs::Integers::natural))]
 pub fn parse_natural(top: u64, s: &[u8]) -> Option<u64>
     requires { top ≤ 9007199254740992 }
     ensures { result ≡ natural top s.now }
@@ -70,10 +69,7 @@ fn has_minus(s: &[u8], i: usize) -> bool
 fn minus_end(s: &[u8]) -> usize
     ensures { result ≡ minus_end s.now }
 {
-    if has_minus(s, 0) {
-        return 1;
-    }
-    0
+    usize::from(has_minus(s, 0))
 }
 
 fn largest(negative: bool) -> u64
@@ -111,6 +107,7 @@ const TENS: [f64; 23] = [
 ];
 
 // Where the digits before the point end.
+#[tactic(auto, unfolding(crate::specs::Doubles::whole_end))]
 fn whole_end(s: &[u8]) -> usize
     ensures { result ≡ whole_end s.now }
 {
@@ -124,34 +121,27 @@ fn mantissa_end(s: &[u8]) -> usize
     scanner::point_end(s, whole_end(s))
 }
 
+#[tactic(auto, unfolding(crate::specs::Doubles::fraction_digits))]
 fn fraction_digits(s: &[u8]) -> usize
     ensures { result ≡ fraction_digits s.now }
 {
-    let whole = whole_end(s);
-    let end = mantissa_end(s);
-    if end == whole {
-        return 0;
-    }
-    end - whole - 1
+    mantissa_end(s)
+        .saturating_sub(whole_end(s))
+        .saturating_sub(1)
 }
 
 // A number has a digit before the exponent.
+#[tactic(auto, unfolding(crate::specs::Doubles::has_digit))]
 fn has_digit(s: &[u8]) -> bool
     ensures { result ≡ has_digit s.now }
 {
-    if minus_end(s) < whole_end(s) {
-        return true;
-    }
-    0 < fraction_digits(s)
+    minus_end(s) < whole_end(s) || 0 < fraction_digits(s)
 }
 
 fn is_e(b: u8) -> bool
     ensures { result ≡ is_e b }
 {
-    if b == b'e' {
-        return true;
-    }
-    b == b'E'
+    b == b'e' || b == b'E'
 }
 
 // Whether the rest from an index on is an exponent; one that is started has a digit.
@@ -166,6 +156,7 @@ fn is_exponent(s: &[u8], i: usize) -> bool
 }
 
 // Whether a text is in the number pattern.
+#[tactic(auto, unfolding(crate::specs::Doubles::is_number))]
 fn is_number(s: &[u8]) -> bool
     ensures { result ≡ is_number s.now }
 {
@@ -173,10 +164,7 @@ fn is_number(s: &[u8]) -> bool
         return false;
     }
     let end = mantissa_end(s);
-    if end == s.len() {
-        return true;
-    }
-    is_exponent(s, end)
+    end == s.len() || is_exponent(s, end)
 }
 
 fn power_of_ten(p: u64) -> f64
@@ -187,6 +175,7 @@ fn power_of_ten(p: u64) -> f64
 }
 
 // One rounded operation on two exact doubles.
+#[tactic(auto, unfolding(crate::specs::Doubles::scaled))]
 fn scaled(n: u64, up: u64, down: u64) -> f64
     requires { (n ≤ 9007199254740992) × ((up ≤ down + 22) × (down ≤ up + 22)) }
     ensures { result ≡ scaled n up down }
@@ -195,15 +184,6 @@ fn scaled(n: u64, up: u64, down: u64) -> f64
         return n as f64 * power_of_ten(up - down);
     }
     n as f64 / power_of_ten(down - up)
-}
-
-fn zero(negative: bool) -> f64
-    ensures { result ≡ fin «negative» 0 (pos 0) }
-{
-    if negative {
-        return -0.0;
-    }
-    0.0
 }
 
 fn signed(negative: bool, x: f64) -> f64
@@ -221,7 +201,7 @@ fn short_double(negative: bool, n: u64, up: u64, down: u64) -> Double
     ensures { result ≡ double_of «negative» n up down }
 {
     if n == 0 {
-        return Double::Is(zero(negative));
+        return Double::Is(signed(negative, 0.0));
     }
     if down + 22 < up {
         return Double::Long;
@@ -252,7 +232,7 @@ fn far_double(s: &[u8], n: u64) -> Double
     ensures { result ≡ double_of (has_minus s.now) n (up s.now) (down s.now) }
 {
     if n == 0 {
-        return Double::Is(zero(has_minus(s, 0)));
+        return Double::Is(signed(has_minus(s, 0), 0.0));
     }
     Double::Long
 }

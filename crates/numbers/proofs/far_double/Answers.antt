@@ -1,5 +1,4 @@
 -- `numbers::far_double` meets its contract. Assumes nothing.
-use borrow.Author.Rules.{rules}
 use mathlib.Core.Path.{ap, ◌∙◌}
 use lib.IntN.{pos}
 use lib.Ieee.{fin}
@@ -13,7 +12,7 @@ pub returns-then-n-eq0 : goal.returns-then-n-eq0
 returns-then-n-eq0 c =
     let a = c.args in
     let s = a.s.now in
-    ap D.Is (c.zero.ensures ∙ ap (λ t. fin t 0 (pos 0)) c.has_minus.ensures)
+    ap D.Is (c.signed.ensures ∙ laws.signed_zero _ ∙ ap (λ t. fin t 0 (pos 0)) c.has_minus.ensures)
     ∙ laws.is_zero (has_minus s) a.n (up s) (down s) c.if-n-eq0.true
 
 pub returns : goal.returns

@@ -1,10 +1,8 @@
 -- `numbers::is_exponent` meets its contract. Assumes nothing.
-use borrow.Author.Rules.{rules}
 use borrow.Author.Tests.{not-true, not-false}
 use mathlib.Core.Path.{◌≡◌, ap, ◌∙◌}
 use native.Mathlib.Omega.{arith}
-use Prim.Native.Nat.{◌<◌}
-use lib.ListN.{length, get_or}
+use lib.ListN.{get_or}
 use Rattle.numbers.specs.Doubles.{is_e}
 use Rattle.numbers.proofs.Doubles as laws
 use Rattle.numbers.proofs.is_exponent.Goals as goal
@@ -14,20 +12,6 @@ returns-then-not-is_e c =
     let a = c.args in
     laws.no_exponent a.s.now a.i _ (c.is_e.ensures ∙ ap is_e c.byte_at.ensures)
     (not-true _ c.if-not-is_e.true-raw)
-
-pub overflow_add-i : goal.overflow_add-i
-overflow_add-i c =
-    let at_e : c.is_e.result ≡ is_e (get_or c.args.s.now c.args.i 0) = c.is_e.ensures ∙ ap is_e c.byte_at.ensures in
-    let e_inside : c.args.i < length c.args.s.now = let a = c.args in
-    laws.exponent-inside a.s.now a.i _ (at_e) (not-false _ c.if-not-is_e.false-raw) in
-    omega (arith, e_inside)
-
-pub sign_end-digits-requires : goal.sign_end-digits-requires
-sign_end-digits-requires c =
-    let at_e : c.is_e.result ≡ is_e (get_or c.args.s.now c.args.i 0) = c.is_e.ensures ∙ ap is_e c.byte_at.ensures in
-    let e_inside : c.args.i < length c.args.s.now = let a = c.args in
-    laws.exponent-inside a.s.now a.i _ (at_e) (not-false _ c.if-not-is_e.false-raw) in
-    omega (arith, e_inside)
 
 pub slice_bounds-is_natural-count : goal.slice_bounds-is_natural-count
 slice_bounds-is_natural-count c =

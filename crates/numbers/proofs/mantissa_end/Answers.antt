@@ -1,5 +1,4 @@
 -- `numbers::mantissa_end` meets its contract. Assumes nothing.
-use borrow.Author.Rules.{rules}
 use mathlib.Core.Path.{ap, ◌∙◌}
 use native.Mathlib.Omega.{arith}
 use Rattle.scanner.specs.Ends.{point_end}

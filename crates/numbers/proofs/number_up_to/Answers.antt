@@ -1,5 +1,4 @@
 -- `numbers::number_up_to` meets its contract. Assumes nothing.
-use borrow.Author.Rules.{rules}
 use mathlib.Core.Path.{ap, ◌∙◌}
 use native.Mathlib.Omega.{arith}
 use Rattle.numbers.specs.Integers.{up_to, value_of}

@@ -1,28 +1,11 @@
 -- `numbers::parse_integer` meets its contract. Assumes nothing.
-use borrow.Author.Rules.{rules}
 use mathlib.Core.Path.{sym, ap, subst, ◌∙◌}
 use Prim.Native.Nat.{ℕ, ◌≤◌}
-use native.Mathlib.Omega.{arith}
-use lib.ListN.{length}
 use mir.Syntax.{w32}
 use mir.ValLaws.{to_z-of_z}
 use Rattle.std.specs.Prelude.{Some}
 use Rattle.numbers.proofs.Integers as laws
 use Rattle.numbers.proofs.parse_integer.Goals as goal
-
-pub slice_bounds-parse_natural-count : goal.slice_bounds-parse_natural-count
-slice_bounds-parse_natural-count c =
-    let inside : c.minus_end-digits.result ≤ length c.args.s.now = omega (arith, c.minus_end-digits.ensures, laws.minus_within c.args.s.now) in
-    inside
-
-pub slice_bounds-parse_natural-start : goal.slice_bounds-parse_natural-start
-slice_bounds-parse_natural-start c =
-    let inside : c.minus_end-digits.result ≤ length c.args.s.now = omega (arith, c.minus_end-digits.ensures, laws.minus_within c.args.s.now) in
-    inside
-
-pub parse_natural-requires : goal.parse_natural-requires
-parse_natural-requires c =
-    omega (arith, c.largest.ensures, laws.largest-small c.has_minus-negative.result)
 
 pub returns-in_err-n : goal.returns-in_err-n
 returns-in_err-n c =

@@ -1,5 +1,4 @@
 -- `numbers::power_of_ten` meets its contract: the table is the powers of ten. Assumes nothing.
-use borrow.Author.Rules.{rules}
 use native.Mathlib.Omega.{arith}
 use lib.Ieee.{nan, of_bits, of_int}
 use Rattle.numbers.specs.Doubles.{ten}
