@@ -22,8 +22,5 @@ pub number-action : (n : ℕ) → n < 100 → number_of (action_at n) ≡ n
 unfolding number_of
 number-action n h = agree (λ k. number_of (action_at k)) (λ k. k) 100 n refl h
 
-pub number_is : (n : ℕ) (a : ActionName) → n < 100 → action_at n ≡ a → n ≡ number_of a
-number_is n a h e = sym (number-action n h) ∙ ap number_of e
-
 pub same_number : (a b : ActionName) → number_of a ≡ number_of b → a ≡ b
 same_number a b e = sym (action-number a) ∙ ap action_at e ∙ action-number b

@@ -6,7 +6,7 @@ ghost use Rattle.actions.specs.Numbers.{number_of, action_at};
 
 use names::ActionName;
 
-// The action of a number; `Add` where there is none.
+// The action of a number; `Add` where there is none. A TryFrom would have the same hundred arms, and its users no use for an error.
 pub fn action_at(n: usize) -> ActionName
     ensures { result ≡ action_at n }
 {
@@ -115,117 +115,10 @@ pub fn action_at(n: usize) -> ActionName
     }
 }
 
-// The arms of `action_number`, held to the list of names.
-fn place_of(a: ActionName) -> usize
-    ensures { (result < 100) × (action_at result ≡ a) }
-{
-    match a {
-        ActionName::Add => 0,
-        ActionName::Add2 => 1,
-        ActionName::And => 2,
-        ActionName::AsciiToChar => 3,
-        ActionName::BitAnd => 4,
-        ActionName::BitLShift => 5,
-        ActionName::BitOr => 6,
-        ActionName::BitRShift => 7,
-        ActionName::BitURShift => 8,
-        ActionName::BitXor => 9,
-        ActionName::Call => 10,
-        ActionName::CallFunction => 11,
-        ActionName::CallMethod => 12,
-        ActionName::CastOp => 13,
-        ActionName::CharToAscii => 14,
-        ActionName::CloneSprite => 15,
-        ActionName::ConstantPool => 16,
-        ActionName::Decrement => 17,
-        ActionName::DefineFunction => 18,
-        ActionName::DefineFunction2 => 19,
-        ActionName::DefineLocal => 20,
-        ActionName::DefineLocal2 => 21,
-        ActionName::Delete => 22,
-        ActionName::Delete2 => 23,
-        ActionName::Divide => 24,
-        ActionName::End => 25,
-        ActionName::EndDrag => 26,
-        ActionName::Enumerate => 27,
-        ActionName::Enumerate2 => 28,
-        ActionName::Equals => 29,
-        ActionName::Equals2 => 30,
-        ActionName::Extends => 31,
-        ActionName::GetMember => 32,
-        ActionName::GetProperty => 33,
-        ActionName::GetTime => 34,
-        ActionName::GetUrl => 35,
-        ActionName::GetUrl2 => 36,
-        ActionName::GetVariable => 37,
-        ActionName::GotoFrame => 38,
-        ActionName::GotoFrame2 => 39,
-        ActionName::GotoLabel => 40,
-        ActionName::Greater => 41,
-        ActionName::If => 42,
-        ActionName::ImplementsOp => 43,
-        ActionName::Increment => 44,
-        ActionName::InitArray => 45,
-        ActionName::InitObject => 46,
-        ActionName::InstanceOf => 47,
-        ActionName::Jump => 48,
-        ActionName::Less => 49,
-        ActionName::Less2 => 50,
-        ActionName::MBAsciiToChar => 51,
-        ActionName::MBCharToAscii => 52,
-        ActionName::MBStringExtract => 53,
-        ActionName::MBStringLength => 54,
-        ActionName::Modulo => 55,
-        ActionName::Multiply => 56,
-        ActionName::NewMethod => 57,
-        ActionName::NewObject => 58,
-        ActionName::NextFrame => 59,
-        ActionName::Not => 60,
-        ActionName::Or => 61,
-        ActionName::Play => 62,
-        ActionName::Pop => 63,
-        ActionName::PrevFrame => 64,
-        ActionName::Push => 65,
-        ActionName::PushDuplicate => 66,
-        ActionName::RandomNumber => 67,
-        ActionName::RemoveSprite => 68,
-        ActionName::Return => 69,
-        ActionName::SetMember => 70,
-        ActionName::SetProperty => 71,
-        ActionName::SetTarget => 72,
-        ActionName::SetTarget2 => 73,
-        ActionName::SetVariable => 74,
-        ActionName::StackSwap => 75,
-        ActionName::StartDrag => 76,
-        ActionName::Stop => 77,
-        ActionName::StopSounds => 78,
-        ActionName::StoreRegister => 79,
-        ActionName::StrictEquals => 80,
-        ActionName::StringAdd => 81,
-        ActionName::StringEquals => 82,
-        ActionName::StringExtract => 83,
-        ActionName::StringGreater => 84,
-        ActionName::StringLength => 85,
-        ActionName::StringLess => 86,
-        ActionName::Subtract => 87,
-        ActionName::TargetPath => 88,
-        ActionName::Throw => 89,
-        ActionName::ToInteger => 90,
-        ActionName::ToNumber => 91,
-        ActionName::ToString => 92,
-        ActionName::ToggleQuality => 93,
-        ActionName::Trace => 94,
-        ActionName::Try => 95,
-        ActionName::TypeOf => 96,
-        ActionName::WaitForFrame => 97,
-        ActionName::WaitForFrame2 => 98,
-        ActionName::With => 99,
-    }
-}
-
-// The number of an action.
+// The number of an action: its place in the enum.
+#[tactic(auto, unfolding(crate::specs::Numbers::number_of))]
 pub fn action_number(a: ActionName) -> usize
     ensures { result ≡ number_of a }
 {
-    place_of(a)
+    a as usize
 }

@@ -1,5 +1,5 @@
 -- Past the list's end stands `Add`.
-use Rattle.std.proofs.Common.{rules, ◌≡◌, sym}
+use Rattle.std.proofs.Common.{sym}
 use Rattle.std.proofs.Math.ListN.{get_or-eq_default}
 use Rattle.laws.proofs.Rest.{rest}
 use Rattle.names.specs.declared.ActionName.TheVariants.{Add}
