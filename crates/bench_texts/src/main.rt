@@ -4,8 +4,7 @@
 #![tactic(auto)]
 
 use answers::Refusal;
-use as2_pcode::Counts;
-use fronts::{Lent, least};
+use as2_pcode::{Counts, Tables};
 use printing::{print_bits, print_number, print_refusal, print_signed, print_text};
 use tokens::Token;
 use values::PushValue;
@@ -233,14 +232,14 @@ fn read_small(rt: HostRuntime, text: &[u8]) {
     let mut operands = [0u64; 1024];
     let mut levels = [0u64; 2048];
     let mut labels = [0u64; 1024];
-    let reading = fronts::read_whole(
-        text,
-        &mut words,
-        &mut actions,
-        &mut operands,
-        &mut levels,
-        &mut labels,
-    );
+    let mut tables = Tables {
+        tokens: &mut words,
+        actions: &mut actions,
+        operands: &mut operands,
+        levels: &mut levels,
+        labels: &mut labels,
+    };
+    let reading = fronts::read_whole(text, &mut tables);
     answer(rt, text, &words, &operands, &levels, &labels, reading);
 }
 
@@ -251,17 +250,14 @@ fn read_large(rt: HostRuntime, text: &[u8]) {
     let mut operands = [0u64; 1024];
     let mut levels = [0u64; 2048];
     let mut labels = [0u64; 1024];
-    entries_of(
-        rt,
-        fronts::read_whole(
-            text,
-            &mut words,
-            &mut actions,
-            &mut operands,
-            &mut levels,
-            &mut labels,
-        ),
-    );
+    let mut tables = Tables {
+        tokens: &mut words,
+        actions: &mut actions,
+        operands: &mut operands,
+        levels: &mut levels,
+        labels: &mut labels,
+    };
+    entries_of(rt, fronts::read_whole(text, &mut tables));
     print_text(rt, b"\n");
 }
 
@@ -296,16 +292,16 @@ fn fill(text: &mut [u8], from: usize, to: usize, piece: &[u8]) {
 }
 
 fn front(text: &[u8], n: usize) -> &[u8] {
-    let end = least(n, text.len());
+    let end = n.min(text.len());
     &text[..end]
 }
 
 // That many With inside one another, with a line feed only after each closing brace, between two short texts.
 fn read_nested(rt: HostRuntime, before: &[u8], blocks: usize, behind: &[u8]) {
-    let start = least(before.len(), 100);
-    let more = least(behind.len(), 100);
-    let opened = start + least(blocks, 100) * 6;
-    let closed = opened + least(blocks, 100) * 2;
+    let start = before.len().min(100);
+    let more = behind.len().min(100);
+    let opened = start + blocks.min(100) * 6;
+    let closed = opened + blocks.min(100) * 2;
     let mut text = [0u8; 1000];
     fill(&mut text, 0, start, before);
     fill(&mut text, start, opened, b"With {");
@@ -339,7 +335,7 @@ fn show_size(rt: HostRuntime, piece: &[u8]) {
 
 const MARK: u64 = 16045690984503098046;
 
-fn print_lent(rt: HostRuntime, p: Lent) {
+fn print_lent(rt: HostRuntime, p: Counts) {
     print_named(rt, b"tables of ", p.tokens);
     print_named(rt, b" ", p.actions);
     print_named(rt, b" ", p.operands);
@@ -376,7 +372,7 @@ fn are_marked(
     if !is_marked(operands, c.operands) {
         return false;
     }
-    if !is_marked(levels, least(c.levels, 100) * 2) {
+    if !is_marked(levels, c.levels.min(100) * 2) {
         return false;
     }
     is_marked(labels, c.labels)
@@ -391,7 +387,7 @@ fn print_kept(rt: HostRuntime, kept: bool) {
 }
 
 // Lends tables of so many words, parts of longer ones that are marked all over.
-fn show_tables(rt: HostRuntime, text: &[u8], p: Lent) {
+fn show_tables(rt: HostRuntime, text: &[u8], p: Counts) {
     print_lent(rt, p);
     print_head(rt, text);
     let mut words = [MARK; 33];
@@ -399,18 +395,14 @@ fn show_tables(rt: HostRuntime, text: &[u8], p: Lent) {
     let mut operands = [MARK; 33];
     let mut levels = [MARK; 33];
     let mut labels = [MARK; 33];
-    let n = entries_of(
-        rt,
-        fronts::read_fronts(
-            text,
-            p,
-            &mut words,
-            &mut actions,
-            &mut operands,
-            &mut levels,
-            &mut labels,
-        ),
-    );
+    let tables = Tables {
+        tokens: &mut words,
+        actions: &mut actions,
+        operands: &mut operands,
+        levels: &mut levels,
+        labels: &mut labels,
+    };
+    let n = entries_of(rt, fronts::read_fronts(text, p, tables));
     print_kept(
         rt,
         are_marked(n, &words, &actions, &operands, &levels, &labels),
@@ -429,7 +421,7 @@ fn show_words(
     show_tables(
         rt,
         text,
-        Lent {
+        Counts {
             tokens,
             actions,
             operands,

@@ -13,6 +13,7 @@ use Rattle.entries.specs.declared.Net.TheVariants as N
 use Rattle.entries.specs.declared.Level.{Level}
 use Rattle.entries.specs.declared.Label.{Label}
 use Rattle.entries.specs.Entries.{owner_of}
+use Rattle.handover.specs.Reading.{Reading}
 
 -- number, level, first operand entry and operand count of an action
 abbrev pub action_after : Action → List ℕ → List ℕ

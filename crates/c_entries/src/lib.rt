@@ -2,7 +2,7 @@
 #![tactic(auto)]
 
 ghost use Rattle.std.specs.Prelude.{◌≡◌};
-ghost use Rattle.c_entries.specs.Entries.{action_after, one_if, operand_after, block_part, net_kind, net_action, net_height, level_after, height_after, label_after, read_number, read_after};
+ghost use Rattle.c_entries.specs.Entries.{action_after, operand_after, block_part, net_kind, net_action, net_height, level_after, height_after, label_after, read_number, read_after};
 
 use answers::Refusal;
 use entries::{Action, Block, Label, Level, Net, Operand, owner_of};
@@ -18,18 +18,12 @@ pub fn tell_action(action: Action, out: &mut [u64; 4])
     out[3] = action.count as u64;
 }
 
-fn one_if(b: bool) -> u64
-    ensures { result ≡ one_if b }
-{
-    if b { 1 } else { 0 }
-}
-
 pub fn tell_operand(operand: Operand, out: &mut [u64; 3])
     ensures { out.new ≡ operand_after operand out.old }
 {
     out[0] = operand.action as u64;
     out[1] = operand.token as u64;
-    out[2] = one_if(operand.unclosed);
+    out[2] = u64::from(operand.unclosed);
 }
 
 pub fn tell_label(label: Label, out: &mut [u64; 3])
@@ -54,30 +48,13 @@ fn block_part(b: Block) -> u64
     }
 }
 
-fn net_kind(n: Net) -> u64
-    ensures { result ≡ net_kind n }
+// Which kind of net, its first undetermined action, and its height.
+fn net_told(n: Net) -> (u64, u64, i64)
+    ensures { (result.0 ≡ net_kind n) × ((result.1 ≡ net_action n) × (result.2 ≡ net_height n)) }
 {
     match n {
-        Net::Height(_) => 0,
-        Net::Undetermined(_) => 1,
-    }
-}
-
-fn net_action(n: Net) -> u64
-    ensures { result ≡ net_action n }
-{
-    match n {
-        Net::Height(_) => 0,
-        Net::Undetermined(action) => action as u64,
-    }
-}
-
-fn net_height(n: Net) -> i64
-    ensures { result ≡ net_height n }
-{
-    match n {
-        Net::Height(height) => height,
-        Net::Undetermined(_) => 0,
+        Net::Height(height) => (0, 0, height),
+        Net::Undetermined(action) => (1, action as u64, 0),
     }
 }
 
@@ -86,14 +63,14 @@ pub fn tell_level(level: Level, out: &mut [u64; 6], height: &mut [i64; 1])
     ensures height_after { height.new ≡ height_after level height.old }
 {
     let block = level.block;
-    let net = level.net;
+    let (kind, action, net_height) = net_told(level.net);
     out[0] = block_part(block);
     out[1] = owner_of(block) as u64;
     out[2] = level.actions as u64;
-    out[3] = net_kind(net);
-    out[4] = net_action(net);
+    out[3] = kind;
+    out[4] = action;
     out[5] = level.unclosed as u64;
-    height[0] = net_height(net);
+    height[0] = net_height;
 }
 
 // ---- reading

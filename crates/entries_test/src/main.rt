@@ -3,7 +3,7 @@
 #![tactic(auto)]
 
 use answers::Refusal;
-use as2_pcode::Counts;
+use as2_pcode::{Counts, Tables};
 use entries::Label;
 use entry_reading::read_entries;
 use label_entries::{find_label, label_at};
@@ -74,7 +74,14 @@ fn read_two(
         position: 9,
     };
     let mut labels = [mark; 2];
-    let reading = read_entries(text, tokens, actions, operands, levels, &mut labels);
+    let mut tables = Tables {
+        tokens,
+        actions,
+        operands,
+        levels,
+        labels: &mut labels,
+    };
+    let reading = read_entries(text, &mut tables);
     let held = &labels[..];
     let first = label_at(held, 0);
     let second = label_at(held, 1);

@@ -17,24 +17,18 @@ use Rattle.handover.specs.Reading.{Reading, Tables, lent, Accepts, Reads, ReadsW
 use Rattle.as2_pcode.proofs.Theorems.{labels-handed}
 use Rattle.held.specs.Held.{AmpleEntries}
 use Rattle.held.proofs.Fills.{inside, refilled, labels_fill, labels_fit}
-use Rattle.held.proofs.Cut.{all_serve, whole_part, cut-part, cut_serves, cut}
+use Rattle.held.proofs.Cut.{Parts, all_serve, serves_for, cut}
 use Rattle.entry_reading.specs.Words.{ReadsScratch}
 
--- ---- the scratch ws is cut to n words
+-- ---- the scratch ws is cut to a part
 
-module _ (text tk ac op lv ws tk' ac' op' lv' part' : List ℕ) (room n : ℕ) (e : n ≡ min room (length ws)) (am : AmpleEntries (length text) (length ws)) where
-  pub scratch_read : (r : Reading) → ReadsWords text (lent tk ac op lv (take n ws)) (lent tk' ac' op' lv' part') r
-      → ReadsScratch room text (lent tk ac op lv ws) (lent tk' ac' op' lv' (part' ++ drop n ws)) r
+module _ (text tk ac op lv ws part : List ℕ) (y z : Tables ℕ) (room : ℕ) (t : Parts (lent tk ac op lv part) y (lent tk ac op lv ws) z)
+    (e : length part ≡ min room (length ws)) (am : AmpleEntries (length text) (length ws)) where
+  pub scratch_read : (r : Reading) → ReadsWords text (lent tk ac op lv part) y r → ReadsScratch room text (lent tk ac op lv ws) z r
   unfolding ReadsScratch
   scratch_read =
-      cut label_entry_word text (length tk) (length ac ∷ length op ∷ level_places lv ∷ room ∷ []) _ _ _ _ (record {
-        tokens = whole_part tk tk';
-        actions = whole_part ac ac';
-        operands = whole_part op op';
-        levels = whole_part lv lv';
-        labels = cut-part ws n part';
-      })
-      (inl refl) (all_serve (length text) (inl refl) (inl refl) (inl refl) (cut_serves ws n room e (AmpleEntries (length text)) am))
+      cut label_entry_word text (length tk) (length ac ∷ length op ∷ level_places lv ∷ room ∷ []) (lent tk ac op lv part) y (lent tk ac op lv ws) z t
+      (inl refl) (all_serve (length text) (inl refl) (inl refl) (inl refl) (serves_for (AmpleEntries (length text)) (length part) room (length ws) e am))
 
 -- ---- the labels
 

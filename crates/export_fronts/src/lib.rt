@@ -4,13 +4,13 @@
 #![tactic(auto)]
 
 use action_records::Style;
+use as2_pcode::Counts;
 use export::Exporting;
-use fronts::{Lent, least};
 
 // A table, or an output, that is shorter is lent whole.
 pub fn export_fronts(
     text: &[u8],
-    lent: Lent,
+    lent: Counts,
     room: usize,
     tokens: &mut [u64],
     actions: &mut [u64],
@@ -20,12 +20,12 @@ pub fn export_fronts(
     style: Style,
     out: &mut [u8],
 ) -> Exporting {
-    let a = least(lent.tokens, tokens.len());
-    let b = least(lent.actions, actions.len());
-    let c = least(lent.operands, operands.len());
-    let d = least(lent.levels, levels.len());
-    let e = least(lent.labels, labels.len());
-    let n = least(room, out.len());
+    let a = lent.tokens.min(tokens.len());
+    let b = lent.actions.min(actions.len());
+    let c = lent.operands.min(operands.len());
+    let d = lent.levels.min(levels.len());
+    let e = lent.labels.min(labels.len());
+    let n = room.min(out.len());
     export::export(
         text,
         &mut tokens[..a],
@@ -40,7 +40,7 @@ pub fn export_fronts(
 
 // The front of some bytes; all, where they are fewer.
 pub fn front(bytes: &[u8], n: usize) -> &[u8] {
-    let end = least(n, bytes.len());
+    let end = n.min(bytes.len());
     &bytes[..end]
 }
 

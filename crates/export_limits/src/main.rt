@@ -4,9 +4,9 @@
 #![tactic(auto)]
 
 use action_records::Style;
+use as2_pcode::Counts;
 use export::Exporting;
 use export_fronts::{MARK, MARK_BYTE, are_marked, export_fronts, front};
-use fronts::Lent;
 use printing::{print_number, print_refusal, print_text};
 
 // ---- a text is built
@@ -95,7 +95,7 @@ fn print_end(rt: HostRuntime, told: Exporting, unchanged: bool) {
 }
 
 // These texts have at most 65,536 tokens and 32,768 operands, but few actions, levels and labels.
-const LENT: Lent = Lent {
+const LENT: Counts = Counts {
     tokens: 65536,
     actions: 64,
     operands: 32768,

@@ -10,12 +10,11 @@ ghost use Rattle.std.specs.Prelude.{◌≤◌};
 
 use action_records::Style;
 use answers::Refusal;
-use as2_pcode::Counts;
+use as2_pcode::{Counts, Tables};
 use export::Exporting;
 use export_fronts::{
     MARK, MARK_BYTE, answer_number, answer_place, are_marked, export_fronts, same_bytes, same_words,
 };
-use fronts::{Lent, least};
 use printing::{print_number, print_text};
 use records::{Cursor, number_from};
 use std::io;
@@ -67,7 +66,7 @@ fn hold_to(rt: HostRuntime, good: bool, what: &[u8], counts: &mut [u64; 23]) {
 
 #[derive(Clone, Copy)]
 struct Call {
-    lent: Lent,
+    lent: Counts,
     style: Style,
     room: usize,
     next: usize,
@@ -80,7 +79,7 @@ fn places(n: u64) -> usize
     if n == 0 {
         return 4096;
     }
-    least((n - 1) as usize, 4096)
+    ((n - 1) as usize).min(4096)
 }
 
 fn style_of(n: u64) -> Style {
@@ -99,7 +98,7 @@ fn call_at(list: &[u8], at: usize) -> Call {
     let e = number_from(list, d.next);
     let f = number_from(list, e.next);
     let g = number_from(list, f.next);
-    let lent = Lent {
+    let lent = Counts {
         tokens: places(a.value),
         actions: places(b.value),
         operands: places(c.value),
@@ -168,7 +167,7 @@ fn same_counts(c: Counts, reading: Result<Counts, Refusal>) -> bool {
 // Whether `read` counts and fills as export did.
 fn is_as_read(
     text: &[u8],
-    lent: Lent,
+    lent: Counts,
     c: Counts,
     tokens: &[u64; 4096],
     actions: &[u64; 4096],
@@ -181,15 +180,14 @@ fn is_as_read(
     let mut read_operands = [MARK; 4096];
     let mut read_levels = [MARK; 8192];
     let mut read_labels = [MARK; 4096];
-    let reading = fronts::read_fronts(
-        text,
-        lent,
-        &mut read_tokens,
-        &mut read_actions,
-        &mut read_operands,
-        &mut read_levels,
-        &mut read_labels,
-    );
+    let tables = Tables {
+        tokens: &mut read_tokens,
+        actions: &mut read_actions,
+        operands: &mut read_operands,
+        levels: &mut read_levels,
+        labels: &mut read_labels,
+    };
+    let reading = fronts::read_fronts(text, lent, tables);
     if !same_counts(c, reading) {
         return false;
     }
@@ -210,7 +208,7 @@ fn is_as_read(
 // Whether export into other places leaves the same entries and bytes.
 fn is_written_again(
     text: &[u8],
-    lent: Lent,
+    lent: Counts,
     room: usize,
     style: Style,
     n: usize,
@@ -265,7 +263,7 @@ fn is_written_again(
 // Whether export into fewer places is refused so, and changes nothing.
 fn is_refused(
     text: &[u8],
-    lent: Lent,
+    lent: Counts,
     room: usize,
     style: Style,
     number: u64,
@@ -303,7 +301,7 @@ fn is_refused(
 fn hold_short_output(
     rt: HostRuntime,
     text: &[u8],
-    lent: Lent,
+    lent: Counts,
     style: Style,
     n: usize,
     counts: &mut [u64; 23],
@@ -316,12 +314,12 @@ fn hold_short_output(
     add(counts, SHORT_OUTPUTS, 1);
 }
 
-fn full_lent(c: Counts) -> Lent {
-    Lent {
+fn full_lent(c: Counts) -> Counts {
+    Counts {
         tokens: c.tokens,
         actions: c.actions,
         operands: c.operands,
-        levels: least(c.levels, 4096) * 2,
+        levels: c.levels.min(4096) * 2,
         labels: c.labels,
     }
 }
@@ -336,8 +334,8 @@ fn less_if(yes: bool, n: usize) -> usize {
 }
 
 // Table 0 is that of tokens. A word less is a place less, of levels too.
-fn short_lent(full: Lent, table: usize) -> Lent {
-    Lent {
+fn short_lent(full: Counts, table: usize) -> Counts {
+    Counts {
         tokens: less_if(table == 0, full.tokens),
         actions: less_if(table == 1, full.actions),
         operands: less_if(table == 2, full.operands),
@@ -346,7 +344,7 @@ fn short_lent(full: Lent, table: usize) -> Lent {
     }
 }
 
-fn words_in(lent: Lent, table: usize) -> usize {
+fn words_in(lent: Counts, table: usize) -> usize {
     match table {
         0 => lent.tokens,
         1 => lent.actions,
@@ -360,7 +358,7 @@ fn words_in(lent: Lent, table: usize) -> usize {
 fn hold_short_table(
     rt: HostRuntime,
     text: &[u8],
-    full: Lent,
+    full: Counts,
     room: usize,
     style: Style,
     table: usize,
@@ -378,7 +376,7 @@ fn hold_short_table(
 // 5 with the number of tokens, or 8 with the table, of which actions are 0.
 fn is_short(
     text: &[u8],
-    short: Lent,
+    short: Counts,
     room: usize,
     style: Style,
     table: usize,
@@ -393,7 +391,7 @@ fn is_short(
 fn hold_short_tables(
     rt: HostRuntime,
     text: &[u8],
-    full: Lent,
+    full: Counts,
     room: usize,
     style: Style,
     counts: &mut [u64; 23],
@@ -495,7 +493,7 @@ fn hold_answer(
     if c.wrong != 0 {
         add(counts, DIFFERENCES, 1);
     }
-    add(counts, least(answer_number(told) as usize, 15), 1);
+    add(counts, (answer_number(told) as usize).min(15), 1);
 }
 
 fn hold(

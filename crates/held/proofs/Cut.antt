@@ -119,8 +119,8 @@ pub record Part {A : Type 0} (p y x z : List A) : Type 0 where
   pub before : x ≡ p ++ rest
   pub after : z ≡ y ++ rest
 
-pub whole_part : {A : Type 0} (x y : List A) → Part x y x y
-whole_part x y = record { rest = []; before = sym (append-nil x); after = sym (append-nil y) }
+pub whole_part : {A : Type 0} {x y z : List A} → z ≡ y → Part x y x z
+whole_part {x = x} {y = y} e = record { rest = []; before = sym (append-nil x); after = e ∙ sym (append-nil y) }
 
 module _ {A : Type 0} {p y x z : List A} (t : Part p y x z) where
   part_fills : {ws : List A} {n : ℕ} → Fills ws n p y → n ≤ length p → z ≡ front ws x

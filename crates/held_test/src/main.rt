@@ -5,12 +5,12 @@
 
 ghost use Rattle.std.specs.Prelude.{◌≡◌, ◌≤◌, length};
 ghost use Rattle.entries.specs.Entries.{level_in};
-ghost use Rattle.handover.specs.Reading.{places, lent};
+ghost use Rattle.handover.specs.Reading.{places, held_in, SameSlices};
 ghost use Rattle.held.specs.Held.{Holds};
 ghost use Rattle.held_test.specs.Determined.{is_undetermined, ReadsDetermined};
 
 use answers::Refusal;
-use as2_pcode::Counts;
+use as2_pcode::{Counts, Tables};
 use checking::check;
 use entries::{Net, level_in};
 use held::{hand_held, read_held};
@@ -32,88 +32,48 @@ fn is_undetermined(levels: &[u64]) -> bool
 fn finish(
     text: &[u8],
     reading: Result<Counts, Refusal>,
-    held_tokens: &[u64],
-    held_actions: &[u64],
-    held_operands: &[u64],
-    held_levels: &[u64],
-    held_labels: &[u64],
-    tokens: &mut [u64],
-    actions: &mut [u64],
-    operands: &mut [u64],
-    levels: &mut [u64],
-    labels: &mut [u64],
+    held: &Tables,
+    tables: &mut Tables,
 ) -> Result<Counts, Refusal>
-    requires { Holds (length tokens.old) (places (lent tokens.old actions.old operands.old levels.old labels.old)) text.now (lent held_tokens.now held_actions.now held_operands.now held_levels.now held_labels.now) reading }
-    ensures { ReadsDetermined text.now (lent tokens.old actions.old operands.old levels.old labels.old) (lent tokens.new actions.new operands.new levels.new labels.new) result }
+    requires { Holds (length tables.old.tokens.now) (places (held_in tables.old)) text.now (held_in held.now) reading }
+    ensures reads { ReadsDetermined text.now (held_in tables.old) (held_in tables.new) result }
+    ensures same_slices { SameSlices tables.old tables.new }
 {
-    match reading {
-        Err(r) => Err(r),
-        Ok(counts) => {
-            if is_undetermined(held_levels) {
-                return Err(Refusal::Undetermined);
-            }
-            hand_held(
-                counts,
-                held_tokens,
-                held_actions,
-                held_operands,
-                held_levels,
-                held_labels,
-                tokens,
-                actions,
-                operands,
-                levels,
-                labels,
-            );
-            Ok(counts)
-        }
+    let counts = reading?;
+    if is_undetermined(held.levels) {
+        return Err(Refusal::Undetermined);
     }
+    hand_held(counts, held, tables);
+    Ok(counts)
 }
 
 // Reads a text into the lent tables, or refuses it by rows 1 to 8, or by 9. The held tables are for any text; a call of the library
 // has them by the length of the text, as `checking` does.
-fn read_determined(
-    text: &[u8],
-    tokens: &mut [u64],
-    actions: &mut [u64],
-    operands: &mut [u64],
-    levels: &mut [u64],
-    labels: &mut [u64],
-) -> Result<Counts, Refusal>
-    ensures { ReadsDetermined text.now (lent tokens.old actions.old operands.old levels.old labels.old) (lent tokens.new actions.new operands.new levels.new labels.new) result }
+fn read_determined(text: &[u8], tables: &mut Tables) -> Result<Counts, Refusal>
+    ensures reads { ReadsDetermined text.now (held_in tables.old) (held_in tables.new) result }
+    ensures same_slices { SameSlices tables.old tables.new }
 {
-    let mut held_tokens = [0u64; 65536];
-    let mut held_actions = [0u64; 32769];
-    let mut held_operands = [0u64; 32769];
-    let mut held_levels = [0u64; 65538];
-    let mut held_labels = [0u64; 32769];
-    let reading = read_held(
-        text,
-        tokens.len(),
-        actions.len(),
-        operands.len(),
-        levels.len() / 2,
-        labels.len(),
-        &mut held_tokens,
-        &mut held_actions,
-        &mut held_operands,
-        &mut held_levels,
-        &mut held_labels,
-    );
-    finish(
-        text,
-        reading,
-        &held_tokens,
-        &held_actions,
-        &held_operands,
-        &held_levels,
-        &held_labels,
-        tokens,
-        actions,
-        operands,
-        levels,
-        labels,
-    )
+    let mut tokens = [0u64; 65536];
+    let mut actions = [0u64; 32769];
+    let mut operands = [0u64; 32769];
+    let mut levels = [0u64; 65538];
+    let mut labels = [0u64; 32769];
+    let mut held = Tables {
+        tokens: &mut tokens,
+        actions: &mut actions,
+        operands: &mut operands,
+        levels: &mut levels,
+        labels: &mut labels,
+    };
+    let places = Counts {
+        tokens: tables.tokens.len(),
+        actions: tables.actions.len(),
+        operands: tables.operands.len(),
+        levels: tables.levels.len() / 2,
+        labels: tables.labels.len(),
+    };
+    let reading = read_held(text, places, &mut held);
+    finish(text, reading, &held, tables)
 }
 
 // ---- the texts
@@ -161,19 +121,23 @@ fn try_text(rt: HostRuntime, text: &[u8]) {
     let mut operands = [9u64; 4];
     let mut levels = [9u64; 8];
     let mut labels = [9u64; 4];
-    print_answer(
-        rt,
-        read_determined(
-            text,
-            &mut tokens,
-            &mut actions,
-            &mut operands,
-            &mut levels,
-            &mut labels,
-        ),
-    );
+    let mut tables = Tables {
+        tokens: &mut tokens,
+        actions: &mut actions,
+        operands: &mut operands,
+        levels: &mut levels,
+        labels: &mut labels,
+    };
+    print_answer(rt, read_determined(text, &mut tables));
     print_changed(rt, tokens[0], actions[0], operands[0], levels[0], labels[0]);
-    print_answer(rt, check(text, 16, 4, 4, 4, 4));
+    let places = Counts {
+        tokens: 16,
+        actions: 4,
+        operands: 4,
+        levels: 4,
+        labels: 4,
+    };
+    print_answer(rt, check(text, places));
     print_text(rt, b"\n");
 }
 

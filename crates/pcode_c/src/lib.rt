@@ -16,6 +16,7 @@ ghost use Rattle.c_entries.specs.Entries.{action_after, operand_after, level_aft
 ghost use Rattle.pcode_c.specs.ReadFor.{ReadFor};
 ghost use Rattle.pcode_c.specs.ExportFor.{ExportFor};
 
+use as2_pcode::Tables;
 use tokens::Span;
 
 #[unsafe(no_mangle)]
@@ -40,7 +41,14 @@ pub extern "C" fn pcode_read(
 ) -> u64
     ensures { ReadFor text.now (lent tokens.old actions.old operands.old levels.old labels.old) (lent tokens.new actions.new operands.new levels.new labels.new) out.old out.new result }
 {
-    let answer = as2_pcode::read(text, tokens, actions, operands, levels, labels);
+    let mut tables = Tables {
+        tokens,
+        actions,
+        operands,
+        levels,
+        labels,
+    };
+    let answer = as2_pcode::read(text, &mut tables);
     c_entries::tell_reading(answer, out)
 }
 

@@ -3,7 +3,7 @@
 // and makes the exit status.
 #![tactic(auto)]
 
-use as2_pcode::Counts;
+use as2_pcode::{Counts, Tables};
 use files::{Outcome, Status, Tally};
 use printing::{Printer, print_number, print_text};
 use reporting::print_name;
@@ -22,15 +22,14 @@ fn check_text(rt: HostRuntime, name: &[u8], text: &[u8]) -> Outcome {
     let mut operands = [0u64; 32769];
     let mut levels = [0u64; 65538];
     let mut labels = [0u64; 32769];
-    let reading = as2_pcode::read(
-        text,
-        &mut tokens,
-        &mut actions,
-        &mut operands,
-        &mut levels,
-        &mut labels,
-    );
-    match reading {
+    let mut tables = Tables {
+        tokens: &mut tokens,
+        actions: &mut actions,
+        operands: &mut operands,
+        levels: &mut levels,
+        labels: &mut labels,
+    };
+    match as2_pcode::read(text, &mut tables) {
         Ok(c) => {
             print_ok(rt, name, c);
             Outcome::Read(reporting::print_warnings(rt, name, text, &tokens, &operands, c.operands))

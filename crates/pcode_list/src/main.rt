@@ -6,7 +6,7 @@ ghost use Rattle.handover.specs.Reading.{lent};
 ghost use Rattle.pcode_list.specs.Listed.{Listed, NeverShort};
 
 use answers::Refusal;
-use as2_pcode::Counts;
+use as2_pcode::{Counts, Tables};
 use files::Status;
 use level_trees::Source;
 
@@ -28,7 +28,14 @@ fn read_listed(
     if MOST < text.len() {
         return Err(Refusal::TooLong);
     }
-    as2_pcode::read(text, tokens, actions, operands, levels, labels)
+    let mut tables = Tables {
+        tokens,
+        actions,
+        operands,
+        levels,
+        labels,
+    };
+    as2_pcode::read(text, &mut tables)
 }
 
 fn list(rt: HostRuntime, text: &[u8]) {
@@ -54,7 +61,11 @@ fn list(rt: HostRuntime, text: &[u8]) {
         labels: &labels,
     };
     listing::print_reading(rt, of, r);
-    let status = if r.is_ok() { Status::Read } else { Status::Refused };
+    let status = if r.is_ok() {
+        Status::Read
+    } else {
+        Status::Refused
+    };
     files::tell_status(rt, status);
 }
 

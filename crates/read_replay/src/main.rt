@@ -4,7 +4,7 @@
 #![tactic(auto)]
 
 use answers::Refusal;
-use as2_pcode::Counts;
+use as2_pcode::{Counts, Tables};
 use entries::{Level, Net, Operand};
 use records::{Cursor, expect, expect_i32, expect_signed, number_from, print_count};
 use std::io;
@@ -283,14 +283,14 @@ fn hold(
     let mut operands = [0u64; 1024];
     let mut levels = [0u64; 2048];
     let mut labels = [0u64; 1024];
-    let reading = fronts::read_whole(
-        text,
-        &mut words,
-        &mut acted,
-        &mut operands,
-        &mut levels,
-        &mut labels,
-    );
+    let mut tables = Tables {
+        tokens: &mut words,
+        actions: &mut acted,
+        operands: &mut operands,
+        levels: &mut levels,
+        labels: &mut labels,
+    };
+    let reading = fronts::read_whole(text, &mut tables);
     let told = expect_answer(
         list,
         records::begin(stop),

@@ -5,16 +5,15 @@
 #![tactic(auto)]
 
 use answers::Refusal;
-use as2_pcode::Counts;
+use as2_pcode::{Counts, Tables};
 use entry_records::{Entries, Totals};
-use fronts::Lent;
 use records::{Cursor, number_from};
 use std::io;
 
 // What the tables are lent with, and where the list goes on.
 #[derive(Clone, Copy)]
 struct Call {
-    lent: Lent,
+    lent: Counts,
     next: usize,
 }
 
@@ -25,11 +24,11 @@ fn call_at(list: &[u8], at: usize) -> Call {
     let c = number_from(list, b.next);
     let d = number_from(list, c.next);
     let e = number_from(list, d.next);
-    let lent = Lent {
+    let lent = Counts {
         tokens: a.value as usize,
         actions: b.value as usize,
         operands: c.value as usize,
-        levels: fronts::least(d.value as usize, 2048) * 2,
+        levels: (d.value as usize).min(2048) * 2,
         labels: e.value as usize,
     };
     Call { lent, next: e.next }
@@ -97,15 +96,14 @@ fn hold(rt: HostRuntime, list: &[u8], stop: usize, next: usize, text: &[u8], t: 
     let mut labels = [0u64; 2048];
     let call = call_at(list, stop);
     let lent = call.lent;
-    let reading = fronts::read_fronts(
-        text,
-        lent,
-        &mut words,
-        &mut acted,
-        &mut operands,
-        &mut levels,
-        &mut labels,
-    );
+    let tables = Tables {
+        tokens: &mut words,
+        actions: &mut acted,
+        operands: &mut operands,
+        levels: &mut levels,
+        labels: &mut labels,
+    };
+    let reading = fronts::read_fronts(text, lent, tables);
     let told = expect_answer(
         list,
         records::begin(call.next),

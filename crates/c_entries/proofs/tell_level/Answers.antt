@@ -11,11 +11,11 @@ use Rattle.c_entries.proofs.tell_level.Goals as goal
 
 pub returns : goal.returns
 returns c =
-    let fits : SFits w64 c.net_height.result = search rules in
-    let n = c in
-    let b = n in
-    let a = b.args in record {
+    let a = c.args in
+    let n = c.net_told-kind in
+    let fits : SFits w64 n.result.2 = search rules in
+    record {
       out_after = (λ i. sets a.out.now 0
-          (b.block_part.ensures i ∷ n.owner_of.ensures i ∷ a.level.actions ∷ n.net_kind.ensures i ∷ c.net_action.ensures i ∷ a.level.unclosed ∷ []));
-      height_after = ap (set a.height.now 0) (to_z-of_z w64 c.net_height.result (fits) ∙ c.net_height.ensures);
+          (c.block_part.ensures i ∷ c.owner_of.ensures i ∷ a.level.actions ∷ n.ensures.0 i ∷ n.ensures.1.0 i ∷ a.level.unclosed ∷ []));
+      height_after = ap (set a.height.now 0) (to_z-of_z w64 n.result.2 (fits) ∙ n.ensures.1.1);
     }

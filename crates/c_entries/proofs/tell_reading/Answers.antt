@@ -1,5 +1,4 @@
 -- `c_entries::tell_reading` meets its contract. Assumes nothing.
-use borrow.Author.Rules.{rules}
 use mathlib.Core.Path.{sym, ap, ◌∙◌}
 use lib.ListN.{set}
 use Rattle.c_entries.specs.Entries.{read_number, read_after}

@@ -1,23 +1,22 @@
--- The three answers of the example, and the room for what is handed over. Assumes nothing.
-use Rattle.handover.specs.Reading.{lent}
+-- `held_test::finish` meets its contract. Assumes nothing.
+use Rattle.std.proofs.lemmas.Result.{err_from_is_err_and}
+use Rattle.handover.specs.Reading.{held_in}
 use Rattle.held.proofs.Hand.{held-read, handable}
 use Rattle.held_test.proofs.Determined as laws
 use Rattle.held_test.proofs.finish.Goals as goal
 
-pub returns-then-is_undetermined : goal.returns-then-is_undetermined
-returns-then-is_undetermined c =
-    let a = c.args in
-    laws.undetermined a.text.now (lent a.held_tokens.now a.held_actions.now a.held_operands.now a.held_levels.now a.held_labels.now) (lent a.tokens.now a.actions.now a.operands.now a.levels.now a.labels.now) a.reading c.requires _ c.in-Ok.is _ c.is_undetermined.ensures c.if-is_undetermined.true
+pub returns-in_err-counts-clause-reads : goal.returns-in_err-counts-clause-reads
+returns-in_err-counts-clause-reads c =
+    let p = err_from_is_err_and c.from_residual.result c.from_residual.ensures.1 in
+    rw (p.1, p.2) (laws.refused _ (held_in c.args.held.now) _ _ c.requires _ c.in_err-counts.was)
+
+pub returns-then-is_undetermined-clause-reads : goal.returns-then-is_undetermined-clause-reads
+returns-then-is_undetermined-clause-reads c =
+    laws.undetermined _ _ _ _ c.requires _ c.in_ok-counts.was _ c.is_undetermined.ensures c.if-is_undetermined.true
 
 pub hand_held-requires : goal.hand_held-requires
-hand_held-requires c = handable _ c.requires.before _ _ _ (held-read c.requires c.in-Ok.is)
+hand_held-requires c = handable _ c.requires.before _ _ _ (held-read c.requires c.in_ok-counts.was)
 
-pub returns-in-Err : goal.returns-in-Err
-returns-in-Err c =
-    let a = c.args in
-    laws.refused a.text.now (lent a.held_tokens.now a.held_actions.now a.held_operands.now a.held_levels.now a.held_labels.now) (lent a.tokens.now a.actions.now a.operands.now a.levels.now a.labels.now) a.reading c.requires _ c.in-Err.is
-
-pub returns-else-is_undetermined : goal.returns-else-is_undetermined
-returns-else-is_undetermined c =
-    let a = c.args in
-    laws.determined a.text.now (lent a.held_tokens.now a.held_actions.now a.held_operands.now a.held_levels.now a.held_labels.now) (lent a.tokens.now a.actions.now a.operands.now a.levels.now a.labels.now) a.reading c.requires _ c.in-Ok.is _ c.is_undetermined.ensures c.if-is_undetermined.false _ c.hand_held.ensures
+pub returns-clause-reads : goal.returns-clause-reads
+returns-clause-reads c =
+    laws.determined _ _ _ _ c.requires _ c.in_ok-counts.was _ c.is_undetermined.ensures c.if-is_undetermined.false _ c.hand_held.ensures.hands_over
