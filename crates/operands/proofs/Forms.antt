@@ -2,13 +2,14 @@
 use mathlib.Core.Path.{◌≡◌, refl, sym, ap, ◌∙◌, subst}
 use mathlib.Core.Bool.{Bool, true, false, cond, false≢true}
 use mathlib.Core.List.{List, [], ◌∷◌}
+use mathlib.Core.Logic.{◌⊎◌, inl, inr}
 use Prim.Native.Nat.{ℕ, ◌+◌, ◌-◌, ◌≤◌, ◌<◌}
 use native.Mathlib.Omega.{arith}
 use lib.Dec.{eqb, ltb}
 use lib.IntN.{ℤ, pos, negsuc}
 use lib.ListN.{length, get_or, set}
 use borrow.Author.Tests.{ltb-true, ltb-false, eqb-true, eqb-false, ne_eqb}
-use Rattle.std.specs.Prelude.{Option, Some, None, is_some}
+use Rattle.std.specs.Prelude.{Result, Ok, Err, Option, Some, None, is_some}
 use Rattle.shapes.specs.declared.Shape.{Shape}
 use Rattle.shapes.specs.declared.Shape.TheVariants as S
 use Rattle.tokens.specs.declared.TokenKind.TheVariants as K
@@ -25,8 +26,8 @@ use Rattle.machine.specs.Plans.{Params, simple, registers, behind_count, functio
 use Rattle.machine.specs.Machine.{Nesting, p_comma, Symbol, mark, operand, flag, counted, level, State, item, ended, list₀, list₁, no_handlers, silent, out, stop, go, further, move, on_count}
 use Rattle.machine.specs.Depth.{fault}
 use Rattle.operands.specs.declared.At.{At}
-use Rattle.operands.specs.declared.Step.{Step}
-use Rattle.operands.specs.declared.Step.TheVariants.{To, Bad}
+use Rattle.operands.specs.declared.Unread.{Unread}
+use Rattle.operands.specs.declared.Unread.TheVariants.{Bad}
 use Rattle.classes.specs.declared.Class.{Class}
 use Rattle.classes.specs.declared.Class.TheVariants as C
 use Rattle.classes.specs.Lexemes.{lexeme_of, kind_at, class_of, class_at, fits_at, acting_as, count_at, is_count_at}
@@ -35,80 +36,80 @@ use Rattle.operands.specs.Log.{Log, log, passed, logged}
 use Rattle.operands.specs.Contract.{judge, outcome, Fine, Ahead, Reads, nothing, at-end as action-ends, OperandRead, CommaRead, NextRead, TwoRead, ThreeRead, repeated, RepeatRead, paired, PairRead, PairsRead, NameRead, CountRead, NamesRead, FunctionRead, FlagsRead, FlagsPairsRead, RegistersRead, Function2Read, FrameRead, ValuesRead, ListRead, left, OperandsRead}
 use Rattle.classes.proofs.OneToken.{kind-inside, fits-inside, fits-there, count-inside, is-count-inside, is-count-there}
 use Rattle.operands.proofs.Places.{at-step, at-stop, at-end, past_same}
-use Rattle.operands.proofs.Runs.{Refuses, passed-fine, passed_on, logged_on, further_on, kind-there, as_to, on_to, refusal, then, fails, framed, both, first_fails, stays, loop-start, loop-then, loop-ends}
+use Rattle.operands.proofs.Runs.{passed-fine, passed_on, logged_on, further_on, kind-there, on_to, refusal, then, fails, framed, both, first_fails, stays, loop-start, loop-then, loop-ends}
 
 -- ---- lists of fixed length
 
-pub two_ok : (text s a b b' : List ℕ) (c d : At) (m n : Class) (r z : Step) → OperandRead m text s a b c r → r ≡ To d → NextRead n text s b b' d z → TwoRead m n text s a b' c z
-two_ok text s a b b' c d m n r z v u w = both (operand (class_of m) ∷ []) (mark p_comma ∷ operand (class_of n) ∷ []) text s a b b' c d r z v u w
+pub two_ok : (text s a b b' : List ℕ) (c d : At) (m n : Class) (z : Result At Unread) → OperandRead m text s a b c (Ok d) → NextRead n text s b b' d z → TwoRead m n text s a b' c z
+two_ok text s a b b' c d m n z v w = both (operand (class_of m) ∷ []) (mark p_comma ∷ operand (class_of n) ∷ []) text s a b b' c d z v w
 
-pub two_bad : (text s a b : List ℕ) (c : At) (m n : Class) (r : Step) → OperandRead m text s a b c r → Refuses r → TwoRead m n text s a b c r
-two_bad text s a b c m n r v o = first_fails (operand (class_of m) ∷ []) (mark p_comma ∷ operand (class_of n) ∷ []) text s a b c r v o
+pub two_bad : (text s a b : List ℕ) (c : At) (m n : Class) (u : Unread) → OperandRead m text s a b c (Err u) → TwoRead m n text s a b c (Err u)
+two_bad text s a b c m n u v = first_fails (operand (class_of m) ∷ []) (mark p_comma ∷ operand (class_of n) ∷ []) text s a b c u v
 
-pub three_ok : (text s a b b' : List ℕ) (c d : At) (m n k : Class) (r z : Step) → TwoRead m n text s a b c r → r ≡ To d → NextRead k text s b b' d z → ThreeRead m n k text s a b' c z
-three_ok text s a b b' c d m n k r z v u w =
-    both (operand (class_of m) ∷ mark p_comma ∷ operand (class_of n) ∷ []) (mark p_comma ∷ operand (class_of k) ∷ []) text s a b b' c d r z v u w
+pub three_ok : (text s a b b' : List ℕ) (c d : At) (m n k : Class) (z : Result At Unread) → TwoRead m n text s a b c (Ok d) → NextRead k text s b b' d z → ThreeRead m n k text s a b' c z
+three_ok text s a b b' c d m n k z v w =
+    both (operand (class_of m) ∷ mark p_comma ∷ operand (class_of n) ∷ []) (mark p_comma ∷ operand (class_of k) ∷ []) text s a b b' c d z v w
 
-pub three_bad : (text s a b : List ℕ) (c : At) (m n k : Class) (r : Step) → TwoRead m n text s a b c r → Refuses r → ThreeRead m n k text s a b c r
-three_bad text s a b c m n k r v o = first_fails (operand (class_of m) ∷ mark p_comma ∷ operand (class_of n) ∷ []) (mark p_comma ∷ operand (class_of k) ∷ []) text s a b c r v o
+pub three_bad : (text s a b : List ℕ) (c : At) (m n k : Class) (u : Unread) → TwoRead m n text s a b c (Err u) → ThreeRead m n k text s a b c (Err u)
+three_bad text s a b c m n k u v = first_fails (operand (class_of m) ∷ mark p_comma ∷ operand (class_of n) ∷ []) (mark p_comma ∷ operand (class_of k) ∷ []) text s a b c u v
 
-pub pair_ok : (text s a b b' : List ℕ) (c d : At) (r z : Step) → NextRead C.U8 text s a b c r → r ≡ To d → NextRead C.String text s b b' d z → PairRead text s a b' c z
-pair_ok text s a b b' c d r z v u w = both (mark p_comma ∷ operand u8 ∷ []) (mark p_comma ∷ operand string ∷ []) text s a b b' c d r z v u w
+pub pair_ok : (text s a b b' : List ℕ) (c d : At) (z : Result At Unread) → NextRead C.U8 text s a b c (Ok d) → NextRead C.String text s b b' d z → PairRead text s a b' c z
+pair_ok text s a b b' c d z v w = both (mark p_comma ∷ operand u8 ∷ []) (mark p_comma ∷ operand string ∷ []) text s a b b' c d z v w
 
-pub pair_bad : (text s a b : List ℕ) (c : At) (r : Step) → NextRead C.U8 text s a b c r → Refuses r → PairRead text s a b c r
-pair_bad text s a b c r v o = first_fails (mark p_comma ∷ operand u8 ∷ []) (mark p_comma ∷ operand string ∷ []) text s a b c r v o
+pub pair_bad : (text s a b : List ℕ) (c : At) (u : Unread) → NextRead C.U8 text s a b c (Err u) → PairRead text s a b c (Err u)
+pair_bad text s a b c u v = first_fails (mark p_comma ∷ operand u8 ∷ []) (mark p_comma ∷ operand string ∷ []) text s a b c u v
 
 -- ---- repetitions
 
 abbrev pub Repeating : Class → ℕ → ℕ → List ℕ → List ℕ → List ℕ → List ℕ → At → At → Type 0
-Repeating m n i text s a b c p = Reads (λ e. repeated m n) (λ e. repeated m (n - i)) text s a b c (To p)
+Repeating m n i text s a b c p = Reads (λ e. repeated m n) (λ e. repeated m (n - i)) text s a b c (Ok p)
 
 pub repeat_start : (text s a : List ℕ) (c : At) (m : Class) (n : ℕ) → Fine text s c → Repeating m n 0 text s a a c c
 repeat_start text s a c m n g = loop-start (repeated m) text s n a c g
 
-repeat_then : (text s a b b' : List ℕ) (c p : At) (m : Class) (n i : ℕ) (r : Step) → Repeating m n i text s a b c p → i < n → NextRead m text s b b' p r →
+repeat_then : (text s a b b' : List ℕ) (c p : At) (m : Class) (n i : ℕ) (r : Result At Unread) → Repeating m n i text s a b c p → i < n → NextRead m text s b b' p r →
     Reads (λ e. repeated m n) (λ e. repeated m (n - (i + 1))) text s a b' c r
 repeat_then text s a b b' c p m n i r v l w = loop-then (repeated m) text s (mark p_comma ∷ operand (class_of m) ∷ []) (λ k. refl) n i a b b' c p r v l w
 
-pub repeat_next : (text s a b b' : List ℕ) (c p d : At) (m : Class) (n i : ℕ) (r : Step) → Repeating m n i text s a b c p → i < n → NextRead m text s b b' p r → r ≡ To d →
+pub repeat_next : (text s a b b' : List ℕ) (c p d : At) (m : Class) (n i : ℕ) → Repeating m n i text s a b c p → i < n → NextRead m text s b b' p (Ok d) →
     Repeating m n (i + 1) text s a b' c d
-repeat_next text s a b b' c p d m n i r v l w u = as_to text s a b' c d r (repeat_then text s a b b' c p m n i r v l w) u
+repeat_next text s a b b' c p d m n i v l w = repeat_then text s a b b' c p m n i (Ok d) v l w
 
-pub repeat_bad : (text s a b b' : List ℕ) (c p : At) (m : Class) (n i : ℕ) (r : Step) → Repeating m n i text s a b c p → i < n → NextRead m text s b b' p r → Refuses r →
-    RepeatRead m n text s a b' c r
-repeat_bad text s a b b' c p m n i r v l w o =
-    fails (λ e. repeated m n) (λ e. repeated m (n - (i + 1))) nothing text s a b' c r (repeat_then text s a b b' c p m n i r v l w) o
+pub repeat_bad : (text s a b b' : List ℕ) (c p : At) (m : Class) (n i : ℕ) (u : Unread) → Repeating m n i text s a b c p → i < n → NextRead m text s b b' p (Err u) →
+    RepeatRead m n text s a b' c (Err u)
+repeat_bad text s a b b' c p m n i u v l w =
+    fails (λ e. repeated m n) (λ e. repeated m (n - (i + 1))) nothing text s a b' c u (repeat_then text s a b b' c p m n i (Err u) v l w)
 
-pub repeat_ends : (text s a b : List ℕ) (c p : At) (m : Class) (n i : ℕ) → Repeating m n i text s a b c p → n ≤ i → RepeatRead m n text s a b c (To p)
+pub repeat_ends : (text s a b : List ℕ) (c p : At) (m : Class) (n i : ℕ) → Repeating m n i text s a b c p → n ≤ i → RepeatRead m n text s a b c (Ok p)
 repeat_ends text s a b c p m n i v l = loop-ends (repeated m) text s refl n i a b c p v l
 
 abbrev pub Pairing : ℕ → ℕ → List ℕ → List ℕ → List ℕ → List ℕ → At → At → Type 0
-Pairing n i text s a b c p = Reads (λ e. paired n) (λ e. paired (n - i)) text s a b c (To p)
+Pairing n i text s a b c p = Reads (λ e. paired n) (λ e. paired (n - i)) text s a b c (Ok p)
 
 pub pairs_start : (text s a : List ℕ) (c : At) (n : ℕ) → Fine text s c → Pairing n 0 text s a a c c
 pairs_start text s a c n g = loop-start paired text s n a c g
 
-pairs-then : (text s a b b' : List ℕ) (c p : At) (n i : ℕ) (r : Step) → Pairing n i text s a b c p → i < n → PairRead text s b b' p r →
+pairs-then : (text s a b b' : List ℕ) (c p : At) (n i : ℕ) (r : Result At Unread) → Pairing n i text s a b c p → i < n → PairRead text s b b' p r →
     Reads (λ e. paired n) (λ e. paired (n - (i + 1))) text s a b' c r
 pairs-then text s a b b' c p n i r v l w =
     loop-then paired text s (mark p_comma ∷ operand u8 ∷ mark p_comma ∷ operand string ∷ []) (λ k. refl) n i a b b' c p r v l w
 
-pub pairs_next : (text s a b b' : List ℕ) (c p d : At) (n i : ℕ) (r : Step) → Pairing n i text s a b c p → i < n → PairRead text s b b' p r → r ≡ To d → Pairing n (i + 1) text s a b' c d
-pairs_next text s a b b' c p d n i r v l w u = as_to text s a b' c d r (pairs-then text s a b b' c p n i r v l w) u
+pub pairs_next : (text s a b b' : List ℕ) (c p d : At) (n i : ℕ) → Pairing n i text s a b c p → i < n → PairRead text s b b' p (Ok d) → Pairing n (i + 1) text s a b' c d
+pairs_next text s a b b' c p d n i v l w = pairs-then text s a b b' c p n i (Ok d) v l w
 
-pub pairs-bad : (text s a b b' : List ℕ) (c p : At) (n i : ℕ) (r : Step) → Pairing n i text s a b c p → i < n → PairRead text s b b' p r → Refuses r → PairsRead n text s a b' c r
-pairs-bad text s a b b' c p n i r v l w o = fails (λ e. paired n) (λ e. paired (n - (i + 1))) nothing text s a b' c r (pairs-then text s a b b' c p n i r v l w) o
+pub pairs-bad : (text s a b b' : List ℕ) (c p : At) (n i : ℕ) (u : Unread) → Pairing n i text s a b c p → i < n → PairRead text s b b' p (Err u) → PairsRead n text s a b' c (Err u)
+pairs-bad text s a b b' c p n i u v l w = fails (λ e. paired n) (λ e. paired (n - (i + 1))) nothing text s a b' c u (pairs-then text s a b b' c p n i (Err u) v l w)
 
-pub pairs-ends : (text s a b : List ℕ) (c p : At) (n i : ℕ) → Pairing n i text s a b c p → n ≤ i → PairsRead n text s a b c (To p)
+pub pairs-ends : (text s a b : List ℕ) (c p : At) (n i : ℕ) → Pairing n i text s a b c p → n ≤ i → PairsRead n text s a b c (Ok p)
 pairs-ends text s a b c p n i v l = loop-ends paired text s refl n i a b c p v l
 
 -- ---- functions
 
-pub name_ok : (text s a b : List ℕ) (c d : At) (r z : Step) → OperandRead C.String text s a b c r → r ≡ To d → CommaRead text s d z → NameRead text s a b c z
-name_ok text s a b c d r z v u w = both (operand string ∷ []) (mark p_comma ∷ []) text s a b b c d r z v u (w.with_log b)
+pub name_ok : (text s a b : List ℕ) (c d : At) (z : Result At Unread) → OperandRead C.String text s a b c (Ok d) → CommaRead text s d z → NameRead text s a b c z
+name_ok text s a b c d z v w = both (operand string ∷ []) (mark p_comma ∷ []) text s a b b c d z v (w.with_log b)
 
-pub name-bad : (text s a b : List ℕ) (c : At) (r : Step) → OperandRead C.String text s a b c r → Refuses r → NameRead text s a b c r
-name-bad text s a b c r v o = first_fails (operand string ∷ []) (mark p_comma ∷ []) text s a b c r v o
+pub name-bad : (text s a b : List ℕ) (c : At) (u : Unread) → OperandRead C.String text s a b c (Err u) → NameRead text s a b c (Err u)
+name-bad text s a b c u v = first_fails (operand string ∷ []) (mark p_comma ∷ []) text s a b c u v
 
 -- an i32 is parsed of an Integer token alone
 on_integer : (f : Params) (t : Lexeme) (z : Option ℤ) → is_some z ≡ true → on_count f t (acting z) ≡ go (further (behind_count f (acting_as z))) (out (given t))
@@ -132,7 +133,7 @@ count-stops f t false w h = refl
 
 module _ (f : Params) (text s a : List ℕ) (c : At) (g : Fine text s c) where
   counts : is_count_at text s c.at ≡ true →
-      Reads (λ e. counted f ∷ []) (λ e. further (behind_count f (count_at text s c.at))) text s a (set a c.events (log_word 2 c.at)) c (To (logged c))
+      Reads (λ e. counted f ∷ []) (λ e. further (behind_count f (count_at text s c.at))) text s a (set a c.events (log_word 2 c.at)) c (Ok (logged c))
   unfolding outcome Ahead integer_text
   counts e =
       let i = is-count-there text s c.at e in
@@ -146,7 +147,7 @@ module _ (f : Params) (text s a : List ℕ) (c : At) (g : Fine text s c) where
         ahead = logged_on text s c g i;
       })
 
-  no_count : (β : Nesting → List Symbol) → is_count_at text s c.at ≡ false → Reads (λ e. counted f ∷ []) β text s a a c (Bad c.at)
+  no_count : (β : Nesting → List Symbol) → is_count_at text s c.at ≡ false → Reads (λ e. counted f ∷ []) β text s a a c (Err (Bad c.at))
   unfolding outcome Ahead integer_text
   no_count β e = record { says = λ q σ k. by (ltb c.at (length s)) refl σ k; ahead = g.inside }
     where
@@ -159,60 +160,60 @@ module _ (f : Params) (text s a : List ℕ) (c : At) (g : Fine text s c) where
       by false q σ k = at-end text s c.at (counted f) σ k (log a c) (ltb-false c.at (length s) q) refl
 
 pub count_ok : (text s a b : List ℕ) (c d : At) (ok : Bool) → Fine text s c → ok ≡ is_count_at text s c.at → ok ≡ true → b ≡ set a c.events (log_word 2 c.at) → d ≡ logged c →
-    CountRead text s a b c (To d)
+    CountRead text s a b c (Ok d)
 count_ok text s a b c d ok f e z p q =
     rw (p, q) (record { names_too = counts simple text s a c f (sym e ∙ z); registers_too = counts registers text s a c f (sym e ∙ z) })
 
-pub count-bad : (text s a : List ℕ) (c : At) (ok : Bool) → Fine text s c → ok ≡ is_count_at text s c.at → ok ≡ false → CountRead text s a a c (Bad c.at)
+pub count-bad : (text s a : List ℕ) (c : At) (ok : Bool) → Fine text s c → ok ≡ is_count_at text s c.at → ok ≡ false → CountRead text s a a c (Err (Bad c.at))
 count-bad text s a c ok f e z =
     record {
       names_too = no_count simple text s a c f (λ x. repeated C.String (count_at text s c.at)) (sym e ∙ z);
       registers_too = no_count registers text s a c f (λ x. further (behind_count registers (count_at text s c.at))) (sym e ∙ z);
     }
 
-pub count-fine : (text s a b : List ℕ) (c d : At) (r : Step) → CountRead text s a b c r → r ≡ To d → Fine text s d
-count-fine text s a b c d r v u = (on_to text s a b c d r v.names_too u).fine
+pub count-fine : (text s a b : List ℕ) (c d : At) → CountRead text s a b c (Ok d) → Fine text s d
+count-fine text s a b c d v = (on_to text s a b c d v.names_too).fine
 
-pub names_ok : (text s a b b' : List ℕ) (c d : At) (n : ℕ) (r z : Step) → n ≡ count_at text s c.at → CountRead text s a b c r → r ≡ To d → RepeatRead C.String n text s b b' d z → NamesRead text s a b' c z
-names_ok text s a b b' c d n r z x v u w =
-    then (λ e. counted simple ∷ []) (λ e. repeated C.String (count_at text s c.at)) nothing text s a b b' c d r z v.names_too u
+pub names_ok : (text s a b b' : List ℕ) (c d : At) (n : ℕ) (z : Result At Unread) → n ≡ count_at text s c.at → CountRead text s a b c (Ok d) → RepeatRead C.String n text s b b' d z → NamesRead text s a b' c z
+names_ok text s a b b' c d n z x v w =
+    then (λ e. counted simple ∷ []) (λ e. repeated C.String (count_at text s c.at)) nothing text s a b b' c d z v.names_too
     (subst (λ (k : ℕ). RepeatRead C.String k text s b b' d z) x w)
 
-pub names-bad : (text s a b : List ℕ) (c : At) (r : Step) → CountRead text s a b c r → Refuses r → NamesRead text s a b c r
-names-bad text s a b c r v o = fails (λ e. counted simple ∷ []) (λ e. repeated C.String (count_at text s c.at)) nothing text s a b c r v.names_too o
+pub names-bad : (text s a b : List ℕ) (c : At) (u : Unread) → CountRead text s a b c (Err u) → NamesRead text s a b c (Err u)
+names-bad text s a b c u v = fails (λ e. counted simple ∷ []) (λ e. repeated C.String (count_at text s c.at)) nothing text s a b c u v.names_too
 
-pub function_ok : (text s a b b' : List ℕ) (c d : At) (r z : Step) → NameRead text s a b c r → r ≡ To d → NamesRead text s b b' d z → FunctionRead text s a b' c z
-function_ok text s a b b' c d r z v u w = both (operand string ∷ mark p_comma ∷ []) (counted simple ∷ []) text s a b b' c d r z v u w
+pub function_ok : (text s a b b' : List ℕ) (c d : At) (z : Result At Unread) → NameRead text s a b c (Ok d) → NamesRead text s b b' d z → FunctionRead text s a b' c z
+function_ok text s a b b' c d z v w = both (operand string ∷ mark p_comma ∷ []) (counted simple ∷ []) text s a b b' c d z v w
 
-pub function-bad : (text s a b : List ℕ) (c : At) (r : Step) → NameRead text s a b c r → Refuses r → FunctionRead text s a b c r
-function-bad text s a b c r v o = first_fails (operand string ∷ mark p_comma ∷ []) (counted simple ∷ []) text s a b c r v o
+pub function-bad : (text s a b : List ℕ) (c : At) (u : Unread) → NameRead text s a b c (Err u) → FunctionRead text s a b c (Err u)
+function-bad text s a b c u v = first_fails (operand string ∷ mark p_comma ∷ []) (counted simple ∷ []) text s a b c u v
 
-pub flags_ok : (text s a b b' : List ℕ) (c d : At) (r z : Step) → NextRead C.U8 text s a b c r → r ≡ To d → RepeatRead C.Bool 9 text s b b' d z → FlagsRead text s a b' c z
-flags_ok text s a b b' c d r z v u w = both (mark p_comma ∷ operand u8 ∷ []) (repeated C.Bool 9) text s a b b' c d r z v u w
+pub flags_ok : (text s a b b' : List ℕ) (c d : At) (z : Result At Unread) → NextRead C.U8 text s a b c (Ok d) → RepeatRead C.Bool 9 text s b b' d z → FlagsRead text s a b' c z
+flags_ok text s a b b' c d z v w = both (mark p_comma ∷ operand u8 ∷ []) (repeated C.Bool 9) text s a b b' c d z v w
 
-pub flags_bad : (text s a b : List ℕ) (c : At) (r : Step) → NextRead C.U8 text s a b c r → Refuses r → FlagsRead text s a b c r
-flags_bad text s a b c r v o = first_fails (mark p_comma ∷ operand u8 ∷ []) (repeated C.Bool 9) text s a b c r v o
+pub flags_bad : (text s a b : List ℕ) (c : At) (u : Unread) → NextRead C.U8 text s a b c (Err u) → FlagsRead text s a b c (Err u)
+flags_bad text s a b c u v = first_fails (mark p_comma ∷ operand u8 ∷ []) (repeated C.Bool 9) text s a b c u v
 
-pub flags_pairs_ok : (text s a b b' : List ℕ) (c d : At) (n : ℕ) (r z : Step) → FlagsRead text s a b c r → r ≡ To d → PairsRead n text s b b' d z → FlagsPairsRead n text s a b' c z
-flags_pairs_ok text s a b b' c d n r z v u w = both (mark p_comma ∷ operand u8 ∷ repeated C.Bool 9) (paired n) text s a b b' c d r z v u w
+pub flags_pairs_ok : (text s a b b' : List ℕ) (c d : At) (n : ℕ) (z : Result At Unread) → FlagsRead text s a b c (Ok d) → PairsRead n text s b b' d z → FlagsPairsRead n text s a b' c z
+flags_pairs_ok text s a b b' c d n z v w = both (mark p_comma ∷ operand u8 ∷ repeated C.Bool 9) (paired n) text s a b b' c d z v w
 
-pub flags_pairs-bad : (text s a b : List ℕ) (c : At) (n : ℕ) (r : Step) → FlagsRead text s a b c r → Refuses r → FlagsPairsRead n text s a b c r
-flags_pairs-bad text s a b c n r v o = first_fails (mark p_comma ∷ operand u8 ∷ repeated C.Bool 9) (paired n) text s a b c r v o
+pub flags_pairs-bad : (text s a b : List ℕ) (c : At) (n : ℕ) (u : Unread) → FlagsRead text s a b c (Err u) → FlagsPairsRead n text s a b c (Err u)
+flags_pairs-bad text s a b c n u v = first_fails (mark p_comma ∷ operand u8 ∷ repeated C.Bool 9) (paired n) text s a b c u v
 
-pub registers_ok : (text s a b b' : List ℕ) (c d : At) (n : ℕ) (r z : Step) → n ≡ count_at text s c.at → CountRead text s a b c r → r ≡ To d → FlagsPairsRead n text s b b' d z →
+pub registers_ok : (text s a b b' : List ℕ) (c d : At) (n : ℕ) (z : Result At Unread) → n ≡ count_at text s c.at → CountRead text s a b c (Ok d) → FlagsPairsRead n text s b b' d z →
     RegistersRead text s a b' c z
-registers_ok text s a b b' c d n r z x v u w =
-    then (λ e. counted registers ∷ []) (λ e. further (behind_count registers (count_at text s c.at))) nothing text s a b b' c d r z v.registers_too u
+registers_ok text s a b b' c d n z x v w =
+    then (λ e. counted registers ∷ []) (λ e. further (behind_count registers (count_at text s c.at))) nothing text s a b b' c d z v.registers_too
     (subst (λ (k : ℕ). FlagsPairsRead k text s b b' d z) x w)
 
-pub registers-bad : (text s a b : List ℕ) (c : At) (r : Step) → CountRead text s a b c r → Refuses r → RegistersRead text s a b c r
-registers-bad text s a b c r v o = fails (λ e. counted registers ∷ []) (λ e. further (behind_count registers (count_at text s c.at))) nothing text s a b c r v.registers_too o
+pub registers-bad : (text s a b : List ℕ) (c : At) (u : Unread) → CountRead text s a b c (Err u) → RegistersRead text s a b c (Err u)
+registers-bad text s a b c u v = fails (λ e. counted registers ∷ []) (λ e. further (behind_count registers (count_at text s c.at))) nothing text s a b c u v.registers_too
 
-pub function_2_ok : (text s a b b' : List ℕ) (c d : At) (r z : Step) → NameRead text s a b c r → r ≡ To d → RegistersRead text s b b' d z → Function2Read text s a b' c z
-function_2_ok text s a b b' c d r z v u w = both (operand string ∷ mark p_comma ∷ []) (counted registers ∷ []) text s a b b' c d r z v u w
+pub function_2_ok : (text s a b b' : List ℕ) (c d : At) (z : Result At Unread) → NameRead text s a b c (Ok d) → RegistersRead text s b b' d z → Function2Read text s a b' c z
+function_2_ok text s a b b' c d z v w = both (operand string ∷ mark p_comma ∷ []) (counted registers ∷ []) text s a b b' c d z v w
 
-pub function_2_bad : (text s a b : List ℕ) (c : At) (r : Step) → NameRead text s a b c r → Refuses r → Function2Read text s a b c r
-function_2_bad text s a b c r v o = first_fails (operand string ∷ mark p_comma ∷ []) (counted registers ∷ []) text s a b c r v o
+pub function_2_bad : (text s a b : List ℕ) (c : At) (u : Unread) → NameRead text s a b c (Err u) → Function2Read text s a b c (Err u)
+function_2_bad text s a b c u v = first_fails (operand string ∷ mark p_comma ∷ []) (counted registers ∷ []) text s a b c u v
 
 -- ---- frames: the first bool decides
 
@@ -245,28 +246,25 @@ module _ (text s : List ℕ) (at : ℕ) (σ : List Symbol) (n : ℕ) (L : Log) w
           let i = ltb-false at (length s) q in
           at-end text s at flag σ n L i refl ∙ sym (at-end text s at (operand bool) (mark p_comma ∷ operand bool ∷ σ) n L i refl)
 
-pub frame_biased : (text s a b b' : List ℕ) (c d : At) (k : ℕ) (r z : Step) → k ≡ kind_at s c.at → TwoRead C.Bool C.Bool text s a b c r → r ≡ To d → k ≡ 12 → NextRead C.U16 text s b b' d z →
+pub frame_biased : (text s a b b' : List ℕ) (c d : At) (k : ℕ) (z : Result At Unread) → k ≡ kind_at s c.at → TwoRead C.Bool C.Bool text s a b c (Ok d) → k ≡ 12 → NextRead C.U16 text s b b' d z →
     FrameRead text s a b' c z
 unfolding outcome
-frame_biased text s a b b' c d k r z e v u y w =
-    let v' = as_to text s a b c d r v u in
+frame_biased text s a b b' c d k z e v y w =
     record {
-      says = λ x σ n. flag_true text s c.at σ n (log a c) (sym e ∙ y) ∙ v'.says x (mark p_comma ∷ operand u16 ∷ σ) n ∙ w.says x σ n;
-      ahead = further_on text s c d z (on_to text s a b c d r v u) w.ahead;
+      says = λ x σ n. flag_true text s c.at σ n (log a c) (sym e ∙ y) ∙ v.says x (mark p_comma ∷ operand u16 ∷ σ) n ∙ w.says x σ n;
+      ahead = further_on text s c d z (on_to text s a b c d v) w.ahead;
     }
 
-pub frame-plain : (text s a b : List ℕ) (c d : At) (k : ℕ) (r : Step) → k ≡ kind_at s c.at → TwoRead C.Bool C.Bool text s a b c r → r ≡ To d → (k ≡ 12 → ⊥) → FrameRead text s a b c (To d)
-frame-plain text s a b c d k r e v u y =
-    let v' = as_to text s a b c d r v u in
-    record { says = λ x σ n. flag_false text s c.at σ n (log a c) (λ q. y (e ∙ q)) ∙ v'.says x σ n; ahead = v'.ahead }
+pub frame-plain : (text s a b : List ℕ) (c d : At) (k : ℕ) → k ≡ kind_at s c.at → TwoRead C.Bool C.Bool text s a b c (Ok d) → (k ≡ 12 → ⊥) → FrameRead text s a b c (Ok d)
+frame-plain text s a b c d k e v y = record { says = λ x σ n. flag_false text s c.at σ n (log a c) (λ q. y (e ∙ q)) ∙ v.says x σ n; ahead = v.ahead }
 
-pub frame-bad : (text s a b : List ℕ) (c : At) (r : Step) → TwoRead C.Bool C.Bool text s a b c r → Refuses r → FrameRead text s a b c r
-frame-bad text s a b c r v o = record { says = λ x σ n. by (eqb (kind_at s c.at) 12) refl x σ n; ahead = v.ahead }
+pub frame-bad : (text s a b : List ℕ) (c : At) (u : Unread) → TwoRead C.Bool C.Bool text s a b c (Err u) → FrameRead text s a b c (Err u)
+frame-bad text s a b c u v = record { says = λ x σ n. by (eqb (kind_at s c.at) 12) refl x σ n; ahead = v.ahead }
   where
-    by : (t : Bool) → eqb (kind_at s c.at) 12 ≡ t → (x : Nesting) (σ : List Symbol) (n : ℕ) → judge text s (flag ∷ σ) n (log a c) c.at ≡ outcome text s σ n b r
+    by : (t : Bool) → eqb (kind_at s c.at) 12 ≡ t → (x : Nesting) (σ : List Symbol) (n : ℕ) → judge text s (flag ∷ σ) n (log a c) c.at ≡ outcome text s σ n b (Err u)
     by true q x σ n =
         flag_true text s c.at σ n (log a c) (eqb-true (kind_at s c.at) 12 q) ∙ v.says x (mark p_comma ∷ operand u16 ∷ σ) n
-        ∙ refusal text s (mark p_comma ∷ operand u16 ∷ σ) σ n b b r o
+        ∙ refusal text s (mark p_comma ∷ operand u16 ∷ σ) σ n n b b u
     by false q x σ n = flag_false text s c.at σ n (log a c) (eqb-false (kind_at s c.at) 12 q) ∙ v.says x σ n
 
 -- ---- lists of any length
@@ -319,12 +317,12 @@ abbrev pub in_list : Class → Nesting → List Symbol
 in_list m e = level e (list₁ (class_of m)) ∷ []
 
 abbrev pub Listing : Class → List ℕ → List ℕ → List ℕ → List ℕ → At → At → Type 0
-Listing m text s a b c p = Reads (in_list m) (in_list m) text s a b c (To p)
+Listing m text s a b c p = Reads (in_list m) (in_list m) text s a b c (Ok p)
 
 pub values-start : (text s a : List ℕ) (c : At) (m : Class) → Fine text s c → Listing m text s a a c c
 values-start text s a c m f = stays (in_list m) text s a c f
 
-values-then : (text s a b b' : List ℕ) (c p d : At) (m : Class) (k : ℕ) (r : Step) → Listing m text s a b c p → k ≡ kind_at s p.at → k ≡ 9 → Fine text s p → d ≡ passed p →
+values-then : (text s a b b' : List ℕ) (c p d : At) (m : Class) (k : ℕ) (r : Result At Unread) → Listing m text s a b c p → k ≡ kind_at s p.at → k ≡ 9 → Fine text s p → d ≡ passed p →
     OperandRead m text s b b' d r → Reads (in_list m) (in_list m) text s a b' c r
 unfolding outcome Ahead
 values-then text s a b b' c p d m k r v e z g q w =
@@ -335,52 +333,42 @@ values-then text s a b b' c p d m k r v e z g q w =
       ahead = further_on text s c p r v.ahead (further_on text s p (passed p) r (passed_on text s p g i) w'.ahead);
     }
 
-pub values-next : (text s a b b' : List ℕ) (c p d q : At) (m : Class) (k : ℕ) (r : Step) → Listing m text s a b c p → k ≡ kind_at s p.at → k ≡ 9 → Fine text s p → d ≡ passed p →
-    OperandRead m text s b b' d r → r ≡ To q → Listing m text s a b' c q
-values-next text s a b b' c p d q m k r v e z g y w u = as_to text s a b' c q r (values-then text s a b b' c p d m k r v e z g y w) u
+pub values-next : (text s a b b' : List ℕ) (c p d q : At) (m : Class) (k : ℕ) → Listing m text s a b c p → k ≡ kind_at s p.at → k ≡ 9 → Fine text s p → d ≡ passed p →
+    OperandRead m text s b b' d (Ok q) → Listing m text s a b' c q
+values-next text s a b b' c p d q m k v e z g y w = values-then text s a b b' c p d m k (Ok q) v e z g y w
 
-pub values-bad : (text s a b b' : List ℕ) (c p d : At) (m : Class) (k : ℕ) (r : Step) → Listing m text s a b c p → k ≡ kind_at s p.at → k ≡ 9 → Fine text s p → d ≡ passed p →
-    OperandRead m text s b b' d r → Refuses r → ValuesRead m text s a b' c r
-values-bad text s a b b' c p d m k r v e z g y w o = fails (in_list m) (in_list m) action-ends text s a b' c r (values-then text s a b b' c p d m k r v e z g y w) o
+pub values-bad : (text s a b b' : List ℕ) (c p d : At) (m : Class) (k : ℕ) (u : Unread) → Listing m text s a b c p → k ≡ kind_at s p.at → k ≡ 9 → Fine text s p → d ≡ passed p →
+    OperandRead m text s b b' d (Err u) → ValuesRead m text s a b' c (Err u)
+values-bad text s a b b' c p d m k u v e z g y w = fails (in_list m) (in_list m) action-ends text s a b' c u (values-then text s a b b' c p d m k (Err u) v e z g y w)
 
-pub values-end : (text s a b : List ℕ) (c p : At) (m : Class) (k : ℕ) → Listing m text s a b c p → k ≡ kind_at s p.at → (k ≡ 9 → ⊥) → ValuesRead m text s a b c (To p)
+pub values-end : (text s a b : List ℕ) (c p : At) (m : Class) (k : ℕ) → Listing m text s a b c p → k ≡ kind_at s p.at → (k ≡ 9 → ⊥) → ValuesRead m text s a b c (Ok p)
 unfolding outcome
 values-end text s a b c p m k v e z = record { says = λ x σ n. v.says x σ n ∙ list_ends text s p.at x m σ n (log b p) (λ y. z (e ∙ y)); ahead = v.ahead }
 
 pub values_past : (text s : List ℕ) (p d : At) (k : ℕ) → Fine text s p → k ≡ kind_at s p.at → k ≡ 9 → d ≡ passed p → Fine text s d
 values_past text s p d k g e z q = rw q (passed-fine text s p g (kind-there s p.at 9 (sym e ∙ z) (omega arith)))
 
-pub values_less : (text s b b' : List ℕ) (p d q : At) (m : Class) (r : Step) → OperandRead m text s b b' d r → r ≡ To q → d ≡ passed p → length s - q.at < length s - p.at
-values_less text s b b' p d q m r w u e =
-    let o = on_to text s b b' d q r w u in
+pub values_less : (text s b b' : List ℕ) (p d q : At) (m : Class) → OperandRead m text s b b' d (Ok q) → d ≡ passed p → length s - q.at < length s - p.at
+values_less text s b b' p d q m w e =
+    let o = on_to text s b b' d q w in
     omega (arith, o.from, o.fine.inside, ap (λ (x : At). x.at) e)
 
-pub list_ok : (text s a b b' : List ℕ) (c d : At) (m : Class) (ok : Bool) (r z : Step) → ok ≡ fits_at m text s c.at → ok ≡ true → OperandRead m text s a b c r → r ≡ To d →
+pub list_ok : (text s a b b' : List ℕ) (c d : At) (m : Class) (ok : Bool) (z : Result At Unread) → ok ≡ fits_at m text s c.at → ok ≡ true → OperandRead m text s a b c (Ok d) →
     ValuesRead m text s b b' d z → ListRead m text s a b' c z
 unfolding outcome
-list_ok text s a b b' c d m ok r z e y v u w =
-    let v' = as_to text s a b c d r v u in
+list_ok text s a b b' c d m ok z e y v w =
     record {
-      says = λ x σ n. some_list text s c.at x m σ n (log a c) (sym e ∙ y) ∙ v'.says x (level x (list₁ (class_of m)) ∷ σ) n ∙ w.says x σ n;
-      ahead = further_on text s c d z (on_to text s a b c d r v u) w.ahead;
+      says = λ x σ n. some_list text s c.at x m σ n (log a c) (sym e ∙ y) ∙ v.says x (level x (list₁ (class_of m)) ∷ σ) n ∙ w.says x σ n;
+      ahead = further_on text s c d z (on_to text s a b c d v) w.ahead;
     }
 
-pub list_bad : (text s a b : List ℕ) (c : At) (m : Class) (ok : Bool) (r : Step) → ok ≡ fits_at m text s c.at → ok ≡ true → OperandRead m text s a b c r → Refuses r → ListRead m text s a b c r
-list_bad text s a b c m ok r e y v o =
-    record {
-      says = λ x σ n.
-          some_list text s c.at x m σ n (log a c) (sym e ∙ y) ∙ v.says x (level x (list₁ (class_of m)) ∷ σ) n
-          ∙ refusal text s (level x (list₁ (class_of m)) ∷ σ) (level x (ended no_handlers) ∷ σ) n b b r o;
-      ahead = v.ahead;
-    }
-
-pub list_none : (text s a : List ℕ) (c : At) (m : Class) (ok : Bool) → Fine text s c → ok ≡ fits_at m text s c.at → ok ≡ false → ListRead m text s a a c (To c)
+pub list_none : (text s a : List ℕ) (c : At) (m : Class) (ok : Bool) → Fine text s c → ok ≡ fits_at m text s c.at → ok ≡ false → ListRead m text s a a c (Ok c)
 unfolding outcome Ahead
 list_none text s a c m ok f e y = record { says = λ x σ n. no_list text s c.at x m σ n (log a c) (sym e ∙ y); ahead = record { from = omega arith; fine = f } }
 
 -- ---- by the shape
 
-module _ (w : Shape) (text s a b : List ℕ) (c : At) (r : Step) where
+module _ (w : Shape) (text s a b : List ℕ) (c : At) (r : Result At Unread) where
   by_shape : (v : Shape) → w ≡ v → OperandsRead v text s a b c r → OperandsRead w text s a b c r
   by_shape v q x = subst (λ (n : Shape). OperandsRead n text s a b c r) (sym q) x
 
@@ -421,12 +409,8 @@ module _ (w : Shape) (text s a b : List ℕ) (c : At) (r : Step) where
   pub read-function_2 : w ≡ S.Function2 → Function2Read text s a b c r → OperandsRead w text s a b c r
   read-function_2 q v = by_shape S.Function2 q (framed (operand string ∷ mark p_comma ∷ counted registers ∷ []) (left (function registers)) text s a b c r v)
 
-module _ (w : Shape) (text s a : List ℕ) (c : At) (f : Fine text s c) where
-  pub read-nothing : w ≡ S.Nothing → OperandsRead w text s a a c (To c)
-  read-nothing q = by_shape w text s a a c (To c) S.Nothing q (stays action-ends text s a c f)
-
-  pub read-block : w ≡ S.Block → OperandsRead w text s a a c (To c)
-  read-block q = by_shape w text s a a c (To c) S.Block q (stays (left within) text s a c f)
-
-  pub read-try : w ≡ S.Try → OperandsRead w text s a a c (To c)
-  read-try q = by_shape w text s a a c (To c) S.Try q (stays (left trying) text s a c f)
+-- shapes with no operands before the block
+pub read-nothing : (w : Shape) (text s a : List ℕ) (c : At) → Fine text s c → (w ≡ S.Nothing) ⊎ ((w ≡ S.Block) ⊎ (w ≡ S.Try)) → OperandsRead w text s a a c (Ok c)
+read-nothing w text s a c f (inl q) = by_shape w text s a a c (Ok c) S.Nothing q (stays action-ends text s a c f)
+read-nothing w text s a c f (inr (inl q)) = by_shape w text s a a c (Ok c) S.Block q (stays (left within) text s a c f)
+read-nothing w text s a c f (inr (inr q)) = by_shape w text s a a c (Ok c) S.Try q (stays (left trying) text s a c f)

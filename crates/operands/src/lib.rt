@@ -2,7 +2,7 @@
 // they read they write into a log of events, from which the tables are made.
 #![tactic(auto)]
 
-ghost use Rattle.std.specs.Prelude.{◌≡◌, true, ◌≤◌, set};
+ghost use Rattle.std.specs.Prelude.{◌≡◌, true, ◌≤◌, set, Ok};
 ghost use Rattle.classes.specs.Lexemes.{fits_at};
 ghost use Rattle.events.specs.Log.{Holdable, log_word};
 ghost use Rattle.operands.specs.Log.{passed, logged};
@@ -19,10 +19,9 @@ pub struct At {
     pub events: usize,
 }
 
-// Where a reader leads: on, or to refusal 6 or 7 at a token.
-#[derive(Clone, Copy)]
-pub enum Step {
-    To(At),
+// Refusal 6 or 7 at a token: outside the grammar, or too deep.
+#[derive(Clone, Copy, PartialEq, Eq)]
+pub enum Unread {
     Bad(usize),
     Deep(usize),
 }
@@ -74,298 +73,229 @@ pub fn logged(c: At) -> At
 // ---- operands
 
 // An operand that is known to fit.
-fn given(text: &[u8], s: &[u64], events: &mut [u64], c: At, m: Class) -> Step
+fn given(text: &[u8], s: &[u64], events: &mut [u64], c: At, m: Class) -> At
     requires fine { Fine text.now s.now c }
     requires at_value { fits_at m text.now s.now c.at ≡ true }
-    ensures { OperandRead m text.now s.now events.old events.new c result }
+    ensures { OperandRead m text.now s.now events.old events.new c (Ok result) }
 {
-    let at = c.at;
-    let n = c.events;
-    write_event(events, n, GIVEN, at as u64);
-    let d = logged(c);
-    Step::To(d)
+    write_event(events, c.events, GIVEN, c.at as u64);
+    logged(c)
 }
 
-fn operand(text: &[u8], s: &[u64], events: &mut [u64], c: At, m: Class) -> Step
+fn operand(text: &[u8], s: &[u64], events: &mut [u64], c: At, m: Class) -> Result<At, Unread>
     requires { Fine text.now s.now c }
     ensures { OperandRead m text.now s.now events.old events.new c result }
 {
-    let at = c.at;
-    let ok = fits_at(text, s, at, m);
-    if ok {
-        given(text, s, events, c, m)
+    if fits_at(text, s, c.at, m) {
+        Ok(given(text, s, events, c, m))
     } else {
-        Step::Bad(at)
+        Err(Unread::Bad(c.at))
     }
 }
 
-fn comma(text: &[u8], s: &[u64], c: At) -> Step
+fn comma(text: &[u8], s: &[u64], c: At) -> Result<At, Unread>
     requires { Fine text.now s.now c }
     ensures { CommaRead text.now s.now c result }
 {
-    let at = c.at;
-    let k = kind_at(s, at);
-    if k == COMMA {
-        let d = passed(c);
-        Step::To(d)
+    if kind_at(s, c.at) == COMMA {
+        Ok(passed(c))
     } else {
-        Step::Bad(at)
+        Err(Unread::Bad(c.at))
     }
 }
 
 // A comma and an operand.
-fn next_operand(text: &[u8], s: &[u64], events: &mut [u64], c: At, m: Class) -> Step
+fn next_operand(text: &[u8], s: &[u64], events: &mut [u64], c: At, m: Class) -> Result<At, Unread>
     requires { Fine text.now s.now c }
     ensures { NextRead m text.now s.now events.old events.new c result }
 {
-    let r = comma(text, s, c);
-    let Step::To(d) = r else {
-        return r;
-    };
+    let d = comma(text, s, c)?;
     operand(text, s, events, d, m)
 }
 
-fn two(text: &[u8], s: &[u64], events: &mut [u64], c: At, m: Class, n: Class) -> Step
+fn two(text: &[u8], s: &[u64], events: &mut [u64], c: At, m: Class, n: Class) -> Result<At, Unread>
     requires { Fine text.now s.now c }
     ensures { TwoRead m n text.now s.now events.old events.new c result }
 {
-    let r = operand(text, s, events, c, m);
-    let Step::To(d) = r else {
-        return r;
-    };
+    let d = operand(text, s, events, c, m)?;
     next_operand(text, s, events, d, n)
 }
 
-fn three(text: &[u8], s: &[u64], events: &mut [u64], c: At, m: Class, n: Class, k: Class) -> Step
+fn three(
+    text: &[u8],
+    s: &[u64],
+    events: &mut [u64],
+    c: At,
+    m: Class,
+    n: Class,
+    k: Class,
+) -> Result<At, Unread>
     requires { Fine text.now s.now c }
     ensures { ThreeRead m n k text.now s.now events.old events.new c result }
 {
-    let r = two(text, s, events, c, m, n);
-    let Step::To(d) = r else {
-        return r;
-    };
+    let d = two(text, s, events, c, m, n)?;
     next_operand(text, s, events, d, k)
 }
 
 // n times a comma and an operand.
-fn repeat(text: &[u8], s: &[u64], events: &mut [u64], c: At, m: Class, n: u64) -> Step
+fn repeat(text: &[u8], s: &[u64], events: &mut [u64], c: At, m: Class, n: u64) -> Result<At, Unread>
     requires { Fine text.now s.now c }
     ensures { RepeatRead m n text.now s.now events.old events.new c result }
 {
     let mut p = c;
-    let mut i = 0;
-    while i < n {
-        let r = next_operand(text, s, events, p, m);
-        let Step::To(d) = r else {
-            return r;
-        };
-        p = d;
-        i = i + 1;
+    for _ in 0..n {
+        p = next_operand(text, s, events, p, m)?;
     }
-    Step::To(p)
+    Ok(p)
 }
 
 // A comma, a register, a comma and a name.
-fn pair(text: &[u8], s: &[u64], events: &mut [u64], c: At) -> Step
+fn pair(text: &[u8], s: &[u64], events: &mut [u64], c: At) -> Result<At, Unread>
     requires { Fine text.now s.now c }
     ensures { PairRead text.now s.now events.old events.new c result }
 {
-    let r = next_operand(text, s, events, c, Class::U8);
-    let Step::To(d) = r else {
-        return r;
-    };
+    let d = next_operand(text, s, events, c, Class::U8)?;
     next_operand(text, s, events, d, Class::String)
 }
 
-fn pairs(text: &[u8], s: &[u64], events: &mut [u64], c: At, n: u64) -> Step
+fn pairs(text: &[u8], s: &[u64], events: &mut [u64], c: At, n: u64) -> Result<At, Unread>
     requires { Fine text.now s.now c }
     ensures { PairsRead n text.now s.now events.old events.new c result }
 {
     let mut p = c;
-    let mut i = 0;
-    while i < n {
-        let r = pair(text, s, events, p);
-        let Step::To(d) = r else {
-            return r;
-        };
-        p = d;
-        i = i + 1;
+    for _ in 0..n {
+        p = pair(text, s, events, p)?;
     }
-    Step::To(p)
+    Ok(p)
 }
 
 // ---- functions
 
 // A function's name and the comma behind it.
-fn function_name(text: &[u8], s: &[u64], events: &mut [u64], c: At) -> Step
+fn function_name(text: &[u8], s: &[u64], events: &mut [u64], c: At) -> Result<At, Unread>
     requires { Fine text.now s.now c }
     ensures { NameRead text.now s.now events.old events.new c result }
 {
-    let r = operand(text, s, events, c, Class::String);
-    let Step::To(d) = r else {
-        return r;
-    };
+    let d = operand(text, s, events, c, Class::String)?;
     comma(text, s, d)
 }
 
 // The count of a function's parameters.
-fn count(text: &[u8], s: &[u64], events: &mut [u64], c: At) -> Step
+fn count(text: &[u8], s: &[u64], events: &mut [u64], c: At) -> Result<At, Unread>
     requires { Fine text.now s.now c }
     ensures { CountRead text.now s.now events.old events.new c result }
 {
-    let at = c.at;
-    let n = c.events;
-    let ok = is_count(text, s, at);
-    if ok {
-        write_event(events, n, GIVEN, at as u64);
-        let d = logged(c);
-        Step::To(d)
+    if is_count(text, s, c.at) {
+        write_event(events, c.events, GIVEN, c.at as u64);
+        Ok(logged(c))
     } else {
-        Step::Bad(at)
+        Err(Unread::Bad(c.at))
     }
 }
 
 // The count and that many names.
-fn names(text: &[u8], s: &[u64], events: &mut [u64], c: At) -> Step
+fn names(text: &[u8], s: &[u64], events: &mut [u64], c: At) -> Result<At, Unread>
     requires { Fine text.now s.now c }
     ensures { NamesRead text.now s.now events.old events.new c result }
 {
-    let at = c.at;
-    let n = count_at(text, s, at);
-    let r = count(text, s, events, c);
-    let Step::To(d) = r else {
-        return r;
-    };
+    let n = count_at(text, s, c.at);
+    let d = count(text, s, events, c)?;
     repeat(text, s, events, d, Class::String, n)
 }
 
 // What stands before the block of a DefineFunction.
-fn define_function(text: &[u8], s: &[u64], events: &mut [u64], c: At) -> Step
+fn define_function(text: &[u8], s: &[u64], events: &mut [u64], c: At) -> Result<At, Unread>
     requires { Fine text.now s.now c }
     ensures { FunctionRead text.now s.now events.old events.new c result }
 {
-    let r = function_name(text, s, events, c);
-    let Step::To(d) = r else {
-        return r;
-    };
+    let d = function_name(text, s, events, c)?;
     names(text, s, events, d)
 }
 
 // The register count and the nine flags.
-fn flags(text: &[u8], s: &[u64], events: &mut [u64], c: At) -> Step
+fn flags(text: &[u8], s: &[u64], events: &mut [u64], c: At) -> Result<At, Unread>
     requires { Fine text.now s.now c }
     ensures { FlagsRead text.now s.now events.old events.new c result }
 {
-    let r = next_operand(text, s, events, c, Class::U8);
-    let Step::To(d) = r else {
-        return r;
-    };
+    let d = next_operand(text, s, events, c, Class::U8)?;
     repeat(text, s, events, d, Class::Bool, 9)
 }
 
-fn flags_and_pairs(text: &[u8], s: &[u64], events: &mut [u64], c: At, n: u64) -> Step
+fn flags_and_pairs(text: &[u8], s: &[u64], events: &mut [u64], c: At, n: u64) -> Result<At, Unread>
     requires { Fine text.now s.now c }
     ensures { FlagsPairsRead n text.now s.now events.old events.new c result }
 {
-    let r = flags(text, s, events, c);
-    let Step::To(d) = r else {
-        return r;
-    };
+    let d = flags(text, s, events, c)?;
     pairs(text, s, events, d, n)
 }
 
 // The count, the flags, and that many pairs of a register and a name.
-fn registers(text: &[u8], s: &[u64], events: &mut [u64], c: At) -> Step
+fn registers(text: &[u8], s: &[u64], events: &mut [u64], c: At) -> Result<At, Unread>
     requires { Fine text.now s.now c }
     ensures { RegistersRead text.now s.now events.old events.new c result }
 {
-    let at = c.at;
-    let n = count_at(text, s, at);
-    let r = count(text, s, events, c);
-    let Step::To(d) = r else {
-        return r;
-    };
+    let n = count_at(text, s, c.at);
+    let d = count(text, s, events, c)?;
     flags_and_pairs(text, s, events, d, n)
 }
 
 // What stands before the block of a DefineFunction2.
-fn define_function_2(text: &[u8], s: &[u64], events: &mut [u64], c: At) -> Step
+fn define_function_2(text: &[u8], s: &[u64], events: &mut [u64], c: At) -> Result<At, Unread>
     requires { Fine text.now s.now c }
     ensures { Function2Read text.now s.now events.old events.new c result }
 {
-    let r = function_name(text, s, events, c);
-    let Step::To(d) = r else {
-        return r;
-    };
+    let d = function_name(text, s, events, c)?;
     registers(text, s, events, d)
 }
 
 // ---- other shapes
 
 // Two bools, and a u16 if the first is true.
-fn goto_frame_2(text: &[u8], s: &[u64], events: &mut [u64], c: At) -> Step
+fn goto_frame_2(text: &[u8], s: &[u64], events: &mut [u64], c: At) -> Result<At, Unread>
     requires { Fine text.now s.now c }
     ensures { FrameRead text.now s.now events.old events.new c result }
 {
-    let at = c.at;
-    let k = kind_at(s, at);
-    let r = two(text, s, events, c, Class::Bool, Class::Bool);
-    let Step::To(d) = r else {
-        return r;
-    };
+    let k = kind_at(s, c.at);
+    let d = two(text, s, events, c, Class::Bool, Class::Bool)?;
     if k == TRUE {
         next_operand(text, s, events, d, Class::U16)
     } else {
-        Step::To(d)
+        Ok(d)
     }
 }
 
 // What follows the first value of a list.
-fn more_values(text: &[u8], s: &[u64], events: &mut [u64], c: At, m: Class) -> Step
+fn more_values(text: &[u8], s: &[u64], events: &mut [u64], c: At, m: Class) -> Result<At, Unread>
     requires { Fine text.now s.now c }
     ensures { ValuesRead m text.now s.now events.old events.new c result }
 {
     let mut p = c;
-    loop {
-        let at = p.at;
-        let k = kind_at(s, at);
-        if k != COMMA {
-            return Step::To(p);
-        }
-        let d = passed(p);
-        let r = operand(text, s, events, d, m);
-        let Step::To(q) = r else {
-            return r;
-        };
-        p = q;
+    while kind_at(s, p.at) == COMMA {
+        p = operand(text, s, events, passed(p), m)?;
     }
+    Ok(p)
 }
 
 // Zero or more values parted by commas.
-fn values(text: &[u8], s: &[u64], events: &mut [u64], c: At, m: Class) -> Step
+fn values(text: &[u8], s: &[u64], events: &mut [u64], c: At, m: Class) -> Result<At, Unread>
     requires { Fine text.now s.now c }
     ensures { ListRead m text.now s.now events.old events.new c result }
 {
-    let at = c.at;
-    let ok = fits_at(text, s, at, m);
-    if ok {
-        let r = given(text, s, events, c, m);
-        let Step::To(d) = r else {
-            return r;
-        };
+    if fits_at(text, s, c.at, m) {
+        let d = given(text, s, events, c, m);
         more_values(text, s, events, d, m)
     } else {
-        Step::To(c)
+        Ok(c)
     }
 }
 
 // The operands of an action, up to its block.
-pub fn operands(text: &[u8], s: &[u64], events: &mut [u64], c: At, w: Shape) -> Step
+pub fn operands(text: &[u8], s: &[u64], events: &mut [u64], c: At, w: Shape) -> Result<At, Unread>
     requires { Fine text.now s.now c }
     ensures { OperandsRead w text.now s.now events.old events.new c result }
 {
     match w {
-        Shape::Nothing => Step::To(c),
+        Shape::Nothing | Shape::Block | Shape::Try => Ok(c),
         Shape::Values => values(text, s, events, c, Class::Value),
         Shape::Strings => values(text, s, events, c, Class::String),
         Shape::StringString => two(text, s, events, c, Class::String, Class::String),
@@ -378,7 +308,5 @@ pub fn operands(text: &[u8], s: &[u64], events: &mut [u64], c: At, w: Shape) -> 
         Shape::U16U8 => two(text, s, events, c, Class::U16, Class::U8),
         Shape::Function => define_function(text, s, events, c),
         Shape::Function2 => define_function_2(text, s, events, c),
-        Shape::Block => Step::To(c),
-        Shape::Try => Step::To(c),
     }
 }

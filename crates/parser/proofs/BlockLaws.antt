@@ -7,34 +7,31 @@ use native.Mathlib.Omega.{arith}
 use lib.Dec.{ltb}
 use lib.ListN.{length, set}
 use borrow.Author.Tests.{ltb-true, ltb-false}
+use Rattle.std.specs.Prelude.{Result, Ok, Err}
 use Rattle.shapes.specs.declared.Shape.{Shape}
 use Rattle.shapes.specs.declared.Shape.TheVariants as S
 use Rattle.lexemes.specs.Events.{opened}
 use Rattle.machine.specs.Machine.{Nesting, inner, no_handlers, Symbol, opens, level, item, ended, out}
 use Rattle.machine.specs.Depth.{fault}
 use Rattle.operands.specs.declared.At.{At}
-use Rattle.operands.specs.declared.Step.{Step}
-use Rattle.operands.specs.declared.Step.TheVariants.{To, Bad, Deep}
+use Rattle.operands.specs.declared.Unread.{Unread}
+use Rattle.operands.specs.declared.Unread.TheVariants.{Bad, Deep}
 use Rattle.classes.specs.Lexemes.{kind_at}
 use Rattle.events.specs.Log.{log_word}
 use Rattle.operands.specs.Log.{log, logged, part_number}
 use Rattle.operands.specs.Contract.{judge, outcome, Fine, Onward, Ahead, at-end as action-ends}
 use Rattle.operands.proofs.Places.{at-step, at-stop, at-end}
-use Rattle.operands.proofs.Runs.{Refuses, logged-fine, logged_on, further_on, kind-there, refusal}
+use Rattle.operands.proofs.Runs.{logged-fine, logged_on, further_on, kind-there, refusal}
 use Rattle.parser.specs.declared.BlockKind.{BlockKind}
-use Rattle.parser.specs.declared.BlockKind.TheVariants as B
-use Rattle.parser.specs.Parsing.{ReadsIn, at_item, EndRead, part_of, BlockRead, LastBlockRead, TryRead, BlocksRead, LevelSays, LevelRead}
+use Rattle.parser.specs.Parsing.{ReadsIn, at_item, EndRead, part_of, BlockRead, LastBlockRead, BlocksRead, LevelSays, LevelRead}
 use Rattle.parser.proofs.Leaves.{kind-known, kind_other}
 
 -- ---- an answer that is known
 
-module _ {α β : Nesting → List Symbol} (text s a b : List ℕ) (c p : At) (d : ℕ) (r : Step) (v : ReadsIn α β text s a b c d r) (u : r ≡ To p) where
-  pub in_to : ReadsIn α β text s a b c d (To p)
-  in_to = subst (λ (x : Step). ReadsIn α β text s a b c d x) u v
-
+module _ {α β : Nesting → List Symbol} (text s a b : List ℕ) (c p : At) (d : ℕ) (v : ReadsIn α β text s a b c d (Ok p)) where
   pub in_on : Onward text s c p
   unfolding Ahead
-  in_on = subst (λ (x : Step). Ahead text s c x) u v.ahead
+  in_on = v.ahead
 
   pub in_fine : Fine text s p
   in_fine = in_on.fine
@@ -42,7 +39,7 @@ module _ {α β : Nesting → List Symbol} (text s a b : List ℕ) (c p : At) (d
 -- ---- a block
 
 module _ (b : BlockKind) (text s a : List ℕ) (c : At) (room k : ℕ) (f : Fine text s c) (e : k ≡ kind_at s c.at) where
-  pub block-bad : (k ≡ 10 → ⊥) → BlockRead b text s a a c room (Bad c.at)
+  pub block-bad : (k ≡ 10 → ⊥) → BlockRead b text s a a c room (Err (Bad c.at))
   unfolding outcome Ahead
   block-bad z = record { says = λ x σ. by (ltb c.at (length s)) refl σ; ahead = f.inside }
     where
@@ -53,7 +50,7 @@ module _ (b : BlockKind) (text s a : List ℕ) (c : At) (room k : ℕ) (f : Fine
           at-stop text s c.at (opens (part_of b)) σ room (log a c) i (rw d)
       by false q σ = at-end text s c.at (opens (part_of b)) σ room (log a c) (ltb-false c.at (length s) q) refl
 
-  pub block-deep : k ≡ 10 → room ≡ 0 → BlockRead b text s a a c room (Deep c.at)
+  pub block-deep : k ≡ 10 → room ≡ 0 → BlockRead b text s a a c room (Err (Deep c.at))
   unfolding outcome Ahead
   block-deep z q =
       let i = kind-known s c.at k 10 e z (omega arith) in
@@ -72,12 +69,12 @@ opened_less s c d k t e z q m =
     let y : d.at ≡ c.at + 1 = ap (λ (x : At). x.at) q in
     omega arith
 
-level-inner : (text s a b : List ℕ) (c : At) (d : ℕ) (r : Step) → LevelRead text s a b c d true r →
+level-inner : (text s a b : List ℕ) (c : At) (d : ℕ) (r : Result At Unread) → LevelRead text s a b c d true r →
     (σ : List Symbol) → judge text s (level inner (item no_handlers) ∷ σ) d (log a c) c.at ≡ outcome text s σ (suc d) b r
 unfolding LevelSays
 level-inner text s a b c d r v = v.says
 
-pub block_goes : (b : BlockKind) (text s a a' l : List ℕ) (c d : At) (room k j : ℕ) (r : Step) → Fine text s c → k ≡ kind_at s c.at → k ≡ 10 → (room ≡ 0 → ⊥) →
+pub block_goes : (b : BlockKind) (text s a a' l : List ℕ) (c d : At) (room k j : ℕ) (r : Result At Unread) → Fine text s c → k ≡ kind_at s c.at → k ≡ 10 → (room ≡ 0 → ⊥) →
     (j ≡ part_number (part_of b)) × (j ≤ 3) → a' ≡ set a c.events (log_word 3 j) → d ≡ logged c → LevelRead text s a' l d (room - 1) true r → BlockRead b text s a l c room r
 block_goes b text s a a' l c d room k j r f e z o p q y v =
     let i = kind-known s c.at k 10 e z (omega arith) in
@@ -97,41 +94,25 @@ block_goes b text s a a' l c d room k j r f e z o p q y v =
 
 -- ---- a block and the end of its action
 
-module _ (b : BlockKind) (text s a l : List ℕ) (c : At) (room : ℕ) (r : Step) (v : BlockRead b text s a l c room r) where
-  pub last-block-bad : Refuses r → LastBlockRead b text s a l c room r
-  last-block-bad o =
-      record { says = λ e σ. v.says e (level e (ended no_handlers) ∷ σ) ∙ refusal text s (level e (ended no_handlers) ∷ σ) (level e (item no_handlers) ∷ σ) room l l r o; ahead = v.ahead }
+module _ (b : BlockKind) (text s a l : List ℕ) (c : At) (room : ℕ) where
+  pub last-block-bad : (u : Unread) → BlockRead b text s a l c room (Err u) → LastBlockRead b text s a l c room (Err u)
+  last-block-bad u v =
+      record { says = λ e σ. v.says e (level e (ended no_handlers) ∷ σ) ∙ refusal text s (level e (ended no_handlers) ∷ σ) (level e (item no_handlers) ∷ σ) room room l l u; ahead = v.ahead }
 
-  pub last-block_ok : (p : At) (z : Step) → r ≡ To p → EndRead text s p z → LastBlockRead b text s a l c room z
+  pub last-block_ok : (p : At) (z : Result At Unread) → BlockRead b text s a l c room (Ok p) → EndRead text s p z → LastBlockRead b text s a l c room z
   unfolding outcome
-  last-block_ok p z u x =
+  last-block_ok p z v x =
       record {
-        says = λ e σ. (in_to text s a l c p room r v u).says e (level e (ended no_handlers) ∷ σ) ∙ (x.with_log l).says e σ room;
-        ahead = further_on text s c p z (in_on text s a l c p room r v u) (x.with_log l).ahead;
+        says = λ e σ. v.says e (level e (ended no_handlers) ∷ σ) ∙ (x.with_log l).says e σ room;
+        ahead = further_on text s c p z (in_on text s a l c p room v) (x.with_log l).ahead;
       }
 
 -- ---- the blocks of an action
 
-module _ (w : Shape) (text s a b : List ℕ) (c : At) (room : ℕ) (r : Step) where
-  by_shape : (v : Shape) → w ≡ v → BlocksRead v text s a b c room r → BlocksRead w text s a b c room r
-  by_shape v q x = subst (λ (n : Shape). BlocksRead n text s a b c room r) (sym q) x
-
-  pub blocks-function : w ≡ S.Function → LastBlockRead B.Body text s a b c room r → BlocksRead w text s a b c room r
-  blocks-function q v = by_shape S.Function q v
-
-  pub blocks-function_2 : w ≡ S.Function2 → LastBlockRead B.Body text s a b c room r → BlocksRead w text s a b c room r
-  blocks-function_2 q v = by_shape S.Function2 q v
-
-  pub blocks_with : w ≡ S.Block → LastBlockRead B.Body text s a b c room r → BlocksRead w text s a b c room r
-  blocks_with q v = by_shape S.Block q v
-
-  pub blocks-try : w ≡ S.Try → TryRead text s a b c room r → BlocksRead w text s a b c room r
-  blocks-try q v = by_shape S.Try q v
-
-action-end : (text s a : List ℕ) (c : At) (room : ℕ) (r : Step) → EndRead text s c r → ReadsIn action-ends at_item text s a a c room r
+action-end : (text s a : List ℕ) (c : At) (room : ℕ) (r : Result At Unread) → EndRead text s c r → ReadsIn action-ends at_item text s a a c room r
 action-end text s a c room r v = record { says = λ e σ. (v.with_log a).says e σ room; ahead = (v.with_log a).ahead }
 
-pub blocks-none : (w : Shape) (text s a : List ℕ) (c : At) (room : ℕ) (r : Step) → EndRead text s c r → (w ≡ S.Function → ⊥) → (w ≡ S.Function2 → ⊥) → (w ≡ S.Block → ⊥) → (w ≡ S.Try → ⊥) →
+pub blocks-none : (w : Shape) (text s a : List ℕ) (c : At) (room : ℕ) (r : Result At Unread) → EndRead text s c r → (w ≡ S.Function → ⊥) → (w ≡ S.Function2 → ⊥) → (w ≡ S.Block → ⊥) → (w ≡ S.Try → ⊥) →
     BlocksRead w text s a a c room r
 blocks-none S.Nothing text s a c room r v f g h i = action-end text s a c room r v
 blocks-none S.Values text s a c room r v f g h i = action-end text s a c room r v

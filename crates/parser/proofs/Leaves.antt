@@ -2,12 +2,14 @@
 use mathlib.Core.Path.{◌≡◌, refl, sym, ◌∙◌, subst}
 use mathlib.Core.Bool.{Bool, true, false}
 use mathlib.Core.List.{List, [], ◌∷◌}
-use mathlib.Core.Option.{Option, none, some}
+use mathlib.Core.Option as M
+use mathlib.Core.Option.{none, some}
 use Prim.Native.Nat.{ℕ, ◌+◌, ◌≤◌, ◌<◌}
 use native.Mathlib.Omega.{arith}
 use lib.Dec.{eqb, ltb}
 use lib.ListN.{length, get_or, set}
 use borrow.Author.Tests.{ltb-true, ltb-false, ne_eqb}
+use Rattle.std.specs.Prelude.{Result, Ok, Err, Some, None}
 use Rattle.tokens.specs.declared.TokenKind.{TokenKind}
 use Rattle.tokens.specs.declared.TokenKind.TheVariants as K
 use Rattle.tokens.specs.Kinds.{code_of, is_kind}
@@ -19,20 +21,18 @@ use Rattle.lexemes.specs.Events.{try, catch, finally, named, opened}
 use Rattle.lexemes.proofs.Tests.{kind-is, operand_not, open_brace}
 use Rattle.machine.specs.Machine.{Nesting, inner, Handlers, no_handlers, after_try, after-catch, p_colon, Symbol, mark, opens, targets, level, item, ended, silent, out, go, move, target-out, puts}
 use Rattle.operands.specs.declared.At.{At}
-use Rattle.operands.specs.declared.Step.{Step}
-use Rattle.operands.specs.declared.Step.TheVariants.{To, Bad, Deep}
+use Rattle.operands.specs.declared.Unread.{Unread}
+use Rattle.operands.specs.declared.Unread.TheVariants.{Bad, Deep}
 use Rattle.classes.specs.declared.Class.TheVariants as C
 use Rattle.classes.specs.Lexemes.{lexeme_of, kind_at, class_at, fits_at}
-use Rattle.events.specs.Log.{Holdable, log_word}
+use Rattle.events.specs.Log.{log_word}
 use Rattle.operands.specs.Log.{Log, log, emit, passed, logged}
 use Rattle.operands.specs.Contract.{judge, outcome, Fine, Ahead}
 use Rattle.classes.proofs.OneToken.{kind-inside, kind_past, fits-inside, fits-there}
 use Rattle.operands.proofs.Places.{at-move, at-step, at-stop, at-end, past_same}
 use Rattle.operands.proofs.Runs.{passed-fine, passed_on, logged-fine, logged_on, here, further_on, kind-there, mark_ok, mark-bad}
-use Rattle.parser.specs.declared.CatchTarget.{CatchTarget}
-use Rattle.parser.specs.declared.CatchTarget.TheVariants as T
 use Rattle.parser.specs.declared.Handler.TheVariants as H
-use Rattle.parser.specs.Parsing.{Forward, EndRead, ColonRead, LabelRead, NewlinesRead, HandlerRead, TargetRead, past_target, GiveAsked, GiveRead, TargetBefore}
+use Rattle.parser.specs.Parsing.{Forward, EndRead, ColonRead, LabelRead, NewlinesRead, HandlerRead, TargetRead}
 
 -- the place of the kind of the token there
 abbrev kind : List ℕ → ℕ → ℕ
@@ -46,7 +46,7 @@ kind_other s at k n i e z = ne_eqb (kind s at) n (λ y. z (e ∙ kind-inside s a
 
 -- ---- the end of an action
 
-pub end_ok : (text s : List ℕ) (c d : At) (k : ℕ) → Fine text s c → k ≡ kind_at s c.at → k ≡ 0 → d ≡ passed c → EndRead text s c (To d)
+pub end_ok : (text s : List ℕ) (c d : At) (k : ℕ) → Fine text s c → k ≡ kind_at s c.at → k ≡ 0 → d ≡ passed c → EndRead text s c (Ok d)
 unfolding outcome Ahead
 end_ok text s c d k f e z q =
     let i = kind-known s c.at k 0 e z (omega arith) in
@@ -58,30 +58,30 @@ end_ok text s c d k f e z q =
       };
     })
 
-pub end-bad : (text s : List ℕ) (c : At) (k : ℕ) → Fine text s c → c.at < length s → k ≡ kind_at s c.at → (k ≡ 0 → ⊥) → EndRead text s c (Bad c.at)
+pub end-bad : (text s : List ℕ) (c : At) (k : ℕ) → Fine text s c → c.at < length s → k ≡ kind_at s c.at → (k ≡ 0 → ⊥) → EndRead text s c (Err (Bad c.at))
 unfolding outcome Ahead
 end-bad text s c k f i e z =
     let m = kind_other s c.at k 0 i e z in
     record { with_log = λ a. record { says = λ x σ n. at-stop text s c.at (level x (ended no_handlers)) σ n (log a c) i (rw m); ahead = f.inside } }
 
-pub end_past : (text s : List ℕ) (c : At) → Fine text s c → length s ≤ c.at → EndRead text s c (To c)
+pub end_past : (text s : List ℕ) (c : At) → Fine text s c → length s ≤ c.at → EndRead text s c (Ok c)
 unfolding outcome Ahead
 end_past text s c f i =
     record { with_log = λ a. record { says = λ x σ n. past_same text s c.at x (ended no_handlers) (item no_handlers) σ n (log a c) i; ahead = here text s c f } }
 
 -- ---- labels
 
-pub colon_ok : (text s : List ℕ) (c d : At) (k : ℕ) → Fine text s c → k ≡ kind_at s c.at → k ≡ 8 → d ≡ passed c → ColonRead text s c (To d)
+pub colon_ok : (text s : List ℕ) (c d : At) (k : ℕ) → Fine text s c → k ≡ kind_at s c.at → k ≡ 8 → d ≡ passed c → ColonRead text s c (Ok d)
 colon_ok text s c d k f e z q = mark_ok p_colon text s c d f (sym e ∙ z) (omega arith) q
 
-pub colon_bad : (text s : List ℕ) (c : At) (k : ℕ) → Fine text s c → k ≡ kind_at s c.at → (k ≡ 8 → ⊥) → ColonRead text s c (Bad c.at)
+pub colon_bad : (text s : List ℕ) (c : At) (k : ℕ) → Fine text s c → k ≡ kind_at s c.at → (k ≡ 8 → ⊥) → ColonRead text s c (Err (Bad c.at))
 colon_bad text s c k f e z = mark-bad p_colon text s c f (λ y. z (e ∙ y))
 
-pub forward_on : (text s : List ℕ) (c d : At) (r : Step) → c.at < d.at → Ahead text s d r → Forward c r
+pub forward_on : (text s : List ℕ) (c d : At) (r : Result At Unread) → c.at < d.at → Ahead text s d r → Forward c r
 unfolding Ahead Forward
-forward_on text s c d (To q) e o = omega (arith, o.from, e)
-forward_on text s c d (Bad k) e o = tt
-forward_on text s c d (Deep k) e o = tt
+forward_on text s c d (Ok q) e o = omega (arith, o.from, e)
+forward_on text s c d (Err (Bad k)) e o = tt
+forward_on text s c d (Err (Deep k)) e o = tt
 
 pub label-fine : (text s : List ℕ) (c d : At) → Fine text s c → kind_at s c.at ≡ 7 → d ≡ logged c → Fine text s d
 label-fine text s c d f e q = rw q (logged-fine text s c f (kind-there s c.at 7 e (omega arith)))
@@ -90,7 +90,7 @@ label-move : (x : Nesting) (i : ℕ) (k : TokenKind) (w : List ℕ) → is_kind 
     move (level x (item no_handlers)) (lexeme i k w) ≡ go (mark p_colon ∷ level x (item no_handlers) ∷ []) (out (named (lexeme i k w)))
 label-move x i k w h = let e = kind-is k K.Identifier h refl in rw e
 
-pub label_ok : (text s a b : List ℕ) (c d : At) (r : Step) → Fine text s c → kind_at s c.at ≡ 7 → b ≡ set a c.events (log_word 1 c.at) → d ≡ logged c → ColonRead text s d r →
+pub label_ok : (text s a b : List ℕ) (c d : At) (r : Result At Unread) → Fine text s c → kind_at s c.at ≡ 7 → b ≡ set a c.events (log_word 1 c.at) → d ≡ logged c → ColonRead text s d r →
     LabelRead text s a b c r
 label_ok text s a b c d r f e p q v =
     let i = kind-there s c.at 7 e (omega arith) in
@@ -110,7 +110,7 @@ label_ok text s a b c d r f e p q v =
 
 -- ---- a Try's target
 
-pub target-some : (text s : List ℕ) (c : At) (ok : Bool) → Fine text s c → ok ≡ fits_at C.Target text s c.at → ok ≡ true → TargetRead text s c (T.Token c.at)
+pub target-some : (text s : List ℕ) (c : At) (ok : Bool) → Fine text s c → ok ≡ fits_at C.Target text s c.at → ok ≡ true → TargetRead text s c (Some c.at)
 unfolding class_at
 target-some text s c ok f e y =
     let i = fits-there C.Target text s c.at (sym e ∙ y) in
@@ -124,7 +124,7 @@ target-some text s c ok f e y =
       before = omega arith;
     }
 
-pub target_none : (text s : List ℕ) (c : At) (ok : Bool) → Fine text s c → ok ≡ fits_at C.Target text s c.at → ok ≡ false → TargetRead text s c T.Nothing
+pub target_none : (text s : List ℕ) (c : At) (ok : Bool) → Fine text s c → ok ≡ fits_at C.Target text s c.at → ok ≡ false → TargetRead text s c None
 unfolding class_at
 target_none text s c ok f e y = record { says = λ x σ n L. by (ltb c.at (length s)) refl x σ n L; fine = f; before = tt }
   where
@@ -145,16 +145,6 @@ target_none text s c ok f e y = record { says = λ x σ n L. by (ltb c.at (lengt
     by false q x σ n L =
         let i = ltb-false c.at (length s) q in
         at-end text s c.at (targets x) σ n L i refl ∙ sym (at-end text s c.at (opens try) (level x (ended (after_try none)) ∷ σ) n L i refl)
-
-pub past_token : (c d : At) (a : CatchTarget) (t : ℕ) → a ≡ T.Token t → d ≡ passed c → d ≡ past_target c a
-past_token c d a t e q = rw e q
-
-pub give_bound : (c : At) (a : CatchTarget) (t : ℕ) → GiveAsked c a → a ≡ T.Token t → Holdable t
-give_bound c a t g e = let k : TargetBefore c (T.Token t) = subst (λ (x : CatchTarget). TargetBefore c x) e g.before in omega (arith, g.at, k)
-
-pub give_token : (a b : List ℕ) (c : At) (t : CatchTarget) (i : ℕ) → t ≡ T.Token i → b ≡ set a c.events (log_word 2 i) →
-    GiveRead a b c t (record { at = c.at; events = c.events + 1 })
-give_token a b c t i e q = rw e (record { given_to = q; counted-to = refl })
 
 -- ---- newlines
 
@@ -180,8 +170,11 @@ skip_next text s at p k v e z =
 pub skip_ends : (text s : List ℕ) (at p k : ℕ) → Skipped text s at p → k ≡ kind_at s p → (k ≡ 0 → ⊥) → NewlinesRead text s at p
 skip_ends text s at p k v e z = record { says = v.says; from = v.from; to = v.to; stops = λ y. z (e ∙ y) }
 
-pub skip_over : (text s : List ℕ) (at p : ℕ) → Skipped text s at p → length s ≤ p → NewlinesRead text s at p
-skip_over text s at p v h = record { says = v.says; from = v.from; to = v.to; stops = λ y. absurd (omega (arith, kind_past s p h, y)) }
+pub skip_over : (text s : List ℕ) (at p : ℕ) → Skipped text s at p → length s ≤ p → NewlinesRead text s at (length s)
+skip_over text s at p v h =
+    let e : p ≡ length s = omega (arith, v.to) in
+    let w : Skipped text s at (length s) = subst (λ n. Skipped text s at n) e v in
+    record { says = w.says; from = w.from; to = w.to; stops = λ y. absurd (omega (arith, kind_past s (length s) (omega arith), y)) }
 
 -- ---- handlers
 
@@ -234,7 +227,7 @@ handler_item text s c k q m e z v f a b =
       to = v.to;
     }
 
-catch_goes : (text s : List ℕ) (q : ℕ) (o : Option Lexeme) (e : Nesting) (σ : List Symbol) (n : ℕ) (L : Log) → q < length s → kind s q ≡ 16 →
+catch_goes : (text s : List ℕ) (q : ℕ) (o : M.Option Lexeme) (e : Nesting) (σ : List Symbol) (n : ℕ) (L : Log) → q < length s → kind s q ≡ 16 →
     judge text s (level e (item (after_try o)) ∷ σ) n L q ≡ judge text s (opens catch ∷ level e (ended after-catch) ∷ σ) n (puts emit (target-out o) L) (q + 1)
 catch_goes text s q none e σ n L i k = at-step text s q (level e (item (after_try none))) (opens catch ∷ level e (ended after-catch) ∷ []) σ silent n L i (rw k)
 catch_goes text s q (some t) e σ n L i k =

@@ -5,6 +5,7 @@ use mathlib.Core.List.{List, [], ◌∷◌, ◌++◌}
 use Prim.Native.Nat.{ℕ, suc, ◌+◌, ◌*◌, ◌-◌, ◌≤◌, ◌<◌}
 use native.Mathlib.Omega.{arith}
 use lib.ListN.{length, get_or, set}
+use Rattle.std.specs.Prelude.{Result, Ok, Err}
 use Rattle.names.specs.declared.ActionName.{ActionName}
 use Rattle.actions.specs.Numbers.{number_of}
 use Rattle.actions.proofs.Numbers.{number_below}
@@ -21,26 +22,26 @@ use Rattle.machine.specs.Plans.{plan_of}
 use Rattle.machine.specs.Machine.{Nesting, top, inner, no_handlers, Symbol, level, item, silent, out, stop, move, start}
 use Rattle.machine.specs.Depth.{read}
 use Rattle.operands.specs.declared.At.{At}
-use Rattle.operands.specs.declared.Step.{Step}
-use Rattle.operands.specs.declared.Step.TheVariants.{To, Bad, Deep}
+use Rattle.operands.specs.declared.Unread.{Unread}
+use Rattle.operands.specs.declared.Unread.TheVariants.{Bad, Deep}
 use Rattle.classes.specs.Lexemes.{kind_at}
 use Rattle.events.specs.Log.{Holdable, log_word}
 use Rattle.operands.specs.Log.{log, passed, logged}
 use Rattle.operands.specs.Contract.{judge, outcome, Fine, Onward, Ahead, Reads, left, OperandsRead}
 use Rattle.classes.proofs.OneToken.{kind-inside}
 use Rattle.operands.proofs.Places.{lexemes-end, at-step, at-stop, at-end}
-use Rattle.operands.proofs.Runs.{Refuses, passed_on, logged-fine, logged_on, further_on, on_to, refusal}
-use Rattle.parser.specs.Parsing.{Forward, LabelRead, BlocksRead, NotClosing, Plain, ItemRead, whole, LevelSays, LevelRead}
+use Rattle.operands.proofs.Runs.{passed_on, logged_on, further_on, on_to, refusal}
+use Rattle.parser.specs.Parsing.{Forward, BlocksRead, Plain, ItemRead, whole, LevelSays, LevelRead}
 use Rattle.parser.proofs.Leaves.{kind-known, forward_on}
-use Rattle.parser.proofs.BlockLaws.{in_on, in_to}
+use Rattle.parser.proofs.BlockLaws.{in_on}
 
 -- ---- an action
 
 -- a token that is no action word, and no newline, label or closing brace either
-pub action_not : (text s a : List ℕ) (c : At) (room : ℕ) (t : Token) (k : TokenKind) → Fine text s c → c.at < length s → Plain s c → t ≡ token_of (get_or s c.at 0) → k ≡ t.kind →
-    ((n : ActionName) → k ≡ K.ActionName n → ⊥) → ItemRead text s a a c room (Bad c.at)
+pub action_not : (text s a : List ℕ) (c : At) (room : ℕ) (t : Token) → Fine text s c → c.at < length s → Plain s c → t ≡ token_of (get_or s c.at 0) →
+    ((n : ActionName) → t.kind ≡ K.ActionName n → ⊥) → ItemRead text s a a c room (Err (Bad c.at))
 unfolding outcome Ahead Forward
-action_not text s a c room t k f i p e q o =
+action_not text s a c room t f i p e o =
     record {
       reads = record { says = λ x σ. at-stop text s c.at (level x (item no_handlers)) σ room (log a c) i (stops x (token_of (get_or s c.at 0)).kind refl); ahead = f.inside };
       forward = tt;
@@ -50,7 +51,7 @@ action_not text s a c room t k f i p e q o =
     at_place j z = kind-inside s c.at i ∙ ap (λ (y : TokenKind). (code_of y).place) z
 
     no_word : (n : ActionName) → (token_of (get_or s c.at 0)).kind ≡ K.ActionName n → ⊥
-    no_word n z = o n (q ∙ ap (λ (y : Token). y.kind) e ∙ z)
+    no_word n z = o n (ap (λ (y : Token). y.kind) e ∙ z)
 
     stops : (x : Nesting) (j : TokenKind) → (token_of (get_or s c.at 0)).kind ≡ j → move (level x (item no_handlers)) (lexeme c.at j (raw_text text (token_of (get_or s c.at 0)))) ≡ stop
     stops x K.Newline z = absurd (p.not_newline (at_place K.Newline z))
@@ -82,20 +83,17 @@ pub record WordAt (text s a a' : List ℕ) (c d : At) (n : ActionName) (w : Shap
   pub past : d ≡ logged c
   pub shape : w ≡ shape_of n
 
-pub word_at : (text s a a' : List ℕ) (c d : At) (n : ActionName) (w : Shape) (t : Token) (k : TokenKind) (j : ℕ) → Fine text s c → c.at < length s → t ≡ token_of (get_or s c.at 0) → k ≡ t.kind →
-    k ≡ K.ActionName n → j ≡ number_of n → a' ≡ set a c.events (log_word 0 j) → d ≡ logged c → w ≡ shape_of n → WordAt text s a a' c d n w
-word_at text s a a' c d n w t k j f i e q z m p y x =
+pub word_at : (text s a a' : List ℕ) (c d : At) (n : ActionName) (w : Shape) (t : Token) (j : ℕ) → Fine text s c → c.at < length s → t ≡ token_of (get_or s c.at 0) →
+    t.kind ≡ K.ActionName n → j ≡ number_of n → a' ≡ set a c.events (log_word 0 j) → d ≡ logged c → w ≡ shape_of n → WordAt text s a a' c d n w
+word_at text s a a' c d n w t j f i e z m p y x =
     record {
       fine = f;
       inside = i;
-      is = ap (λ (v : Token). v.kind) (sym e) ∙ sym q ∙ z;
+      is = ap (λ (v : Token). v.kind) (sym e) ∙ z;
       logs = p ∙ ap (λ (v : ℕ). set a c.events (log_word 0 v)) m;
       past = y;
       shape = x;
     }
-
-pub acted-fine : (text s : List ℕ) (c d : At) → Fine text s c → c.at < length s → d ≡ logged c → Fine text s d
-acted-fine text s c d f i q = rw q (logged-fine text s c f i)
 
 module _ {text s a a' : List ℕ} {c d : At} {n : ActionName} {w : Shape} (h : WordAt text s a a' c d n w) where
   word_on : Onward text s c d
@@ -113,60 +111,56 @@ module _ {text s a a' : List ℕ} {c d : At} {n : ActionName} {w : Shape} (h : W
       (at-step text s c.at (level e (item no_handlers)) (start (plan_of (shape_of n)) e) σ (out (acted n)) room (log a c) h.inside
       (ap (λ (k : TokenKind). move (level e (item no_handlers)) (lexeme c.at k (raw_text text (token_of (get_or s c.at 0))))) h.is))
 
-  module _ (b : List ℕ) (room : ℕ) (r : Step) (v : OperandsRead w text s a' b d r) where
-    operands-then : (e : Nesting) (σ : List Symbol) → judge text s (level e (item no_handlers) ∷ σ) room (log a c) c.at ≡ outcome text s (left (plan_of w) e ++ σ) room b r
-    operands-then e σ = word_goes room e σ ∙ v.says e σ room
+  operands-then : (b : List ℕ) (room : ℕ) (r : Result At Unread) → OperandsRead w text s a' b d r →
+      (e : Nesting) (σ : List Symbol) → judge text s (level e (item no_handlers) ∷ σ) room (log a c) c.at ≡ outcome text s (left (plan_of w) e ++ σ) room b r
+  operands-then b room r v e σ = word_goes room e σ ∙ v.says e σ room
 
-    pub action-operands-bad : Refuses r → ItemRead text s a b c room r
-    action-operands-bad o =
+  pub action-operands-bad : (b : List ℕ) (room : ℕ) (u : Unread) → OperandsRead w text s a' b d (Err u) → ItemRead text s a b c room (Err u)
+  action-operands-bad b room u v =
+      record {
+        reads = record {
+          says = λ e σ. operands-then b room (Err u) v e σ ∙ refusal text s (left (plan_of w) e ++ σ) (level e (item no_handlers) ∷ σ) room room b b u;
+          ahead = further_on text s c d (Err u) word_on v.ahead;
+        };
+        forward = forward_on text s c d (Err u) word_past v.ahead;
+      }
+
+  module _ (b : List ℕ) (room : ℕ) (p : At) (v : OperandsRead w text s a' b d (Ok p)) (l : List ℕ) (z : Result At Unread) (x : BlocksRead w text s b l p room z) where
+    pub action_ok : ItemRead text s a l c room z
+    unfolding outcome
+    action_ok =
+        let j : Ahead text s d z = further_on text s d p z (on_to text s a' b d p v) x.ahead in
         record {
-          reads = record {
-            says = λ e σ. operands-then e σ ∙ refusal text s (left (plan_of w) e ++ σ) (level e (item no_handlers) ∷ σ) room b b r o;
-            ahead = further_on text s c d r word_on v.ahead;
-          };
-          forward = forward_on text s c d r word_past v.ahead;
+          reads = record { says = λ e σ. operands-then b room (Ok p) v e σ ∙ x.says e σ; ahead = further_on text s c d z word_on j };
+          forward = forward_on text s c d z word_past j;
         }
 
-    module _ (p : At) (u : r ≡ To p) (l : List ℕ) (z : Step) (x : BlocksRead w text s b l p room z) where
-      pub action_ok : ItemRead text s a l c room z
-      unfolding outcome
-      action_ok =
-          let j : Ahead text s d z = further_on text s d p z (on_to text s a' b d p r v u) x.ahead in
-          record {
-            reads = record {
-              says = λ e σ.
-                  subst (λ (y : Step). judge text s (level e (item no_handlers) ∷ σ) room (log a c) c.at ≡ outcome text s (left (plan_of w) e ++ σ) room b y) u (operands-then e σ) ∙ x.says e σ;
-              ahead = further_on text s c d z word_on j;
-            };
-            forward = forward_on text s c d z word_past j;
-          }
-
-pub acted_less : {α β : Nesting → List Symbol} (text s a b : List ℕ) (c d p : At) (r : Step) (t : ℕ) → c.at < length s → d ≡ logged c → Reads α β text s a b d r → r ≡ To p →
+pub acted_less : {α β : Nesting → List Symbol} (text s a b : List ℕ) (c d p : At) (t : ℕ) → c.at < length s → d ≡ logged c → Reads α β text s a b d (Ok p) →
     4 * (length s - c.at) ≡ t → 4 * (length s - p.at) + 3 < t
-acted_less text s a b c d p r t i q v u m =
-    let o = on_to text s a b d p r v u in
+acted_less text s a b c d p t i q v m =
+    let o = on_to text s a b d p v in
     let y : d.at ≡ c.at + 1 = ap (λ (x : At). x.at) q in
     omega (arith, o.from)
 
 -- ---- the two ends of an action, from what its reader knows
 
-module _ (text s a a' : List ℕ) (c d : At) (n : ActionName) (w : Shape) (t : Token) (k : TokenKind) (j : ℕ) (f : Fine text s c) (i : c.at < length s) (e : t ≡ token_of (get_or s c.at 0))
-    (q : k ≡ t.kind) (z : k ≡ K.ActionName n) (m : j ≡ number_of n) (p : a' ≡ set a c.events (log_word 0 j)) (y : d ≡ logged c) (x : w ≡ shape_of n) where
+module _ (text s a a' : List ℕ) (c d : At) (n : ActionName) (w : Shape) (t : Token) (j : ℕ) (f : Fine text s c) (i : c.at < length s) (e : t ≡ token_of (get_or s c.at 0))
+    (z : t.kind ≡ K.ActionName n) (m : j ≡ number_of n) (p : a' ≡ set a c.events (log_word 0 j)) (y : d ≡ logged c) (x : w ≡ shape_of n) where
   word : WordAt text s a a' c d n w
-  word = word_at text s a a' c d n w t k j f i e q z m p y x
+  word = word_at text s a a' c d n w t j f i e z m p y x
 
-  pub operands-bad : (b : List ℕ) (room : ℕ) (r : Step) → OperandsRead w text s a' b d r → Refuses r → ItemRead text s a b c room r
-  operands-bad b room r v o = action-operands-bad word b room r v o
+  pub operands-bad : (b : List ℕ) (room : ℕ) (u : Unread) → OperandsRead w text s a' b d (Err u) → ItemRead text s a b c room (Err u)
+  operands-bad b room u v = action-operands-bad word b room u v
 
-  pub action-whole : (b l : List ℕ) (room : ℕ) (r r' : Step) (p' : At) → OperandsRead w text s a' b d r → r ≡ To p' → BlocksRead w text s b l p' room r' → ItemRead text s a l c room r'
-  action-whole b l room r r' p' v u g = action_ok word b room r v p' u l r' g
+  pub action-whole : (b l : List ℕ) (room : ℕ) (r' : Result At Unread) (p' : At) → OperandsRead w text s a' b d (Ok p') → BlocksRead w text s b l p' room r' → ItemRead text s a l c room r'
+  action-whole b l room r' p' v g = action_ok word b room p' v l r' g
 
 pub number_fits : (n : ActionName) (j : ℕ) → j ≡ number_of n → Holdable j
 number_fits n j e = omega (arith, number_below n)
 
 -- ---- an item
 
-pub item-newline : (text s a : List ℕ) (c d : At) (room k : ℕ) → Fine text s c → k ≡ kind_at s c.at → k ≡ 0 → d ≡ passed c → ItemRead text s a a c room (To d)
+pub item-newline : (text s a : List ℕ) (c d : At) (room k : ℕ) → Fine text s c → k ≡ kind_at s c.at → k ≡ 0 → d ≡ passed c → ItemRead text s a a c room (Ok d)
 unfolding outcome Ahead Forward
 item-newline text s a c d room k f e z q =
     let i = kind-known s c.at k 0 e z (omega arith) in
@@ -178,15 +172,6 @@ item-newline text s a c d room k f e z q =
       };
       forward = omega arith;
     })
-
-pub item-label : (text s a b : List ℕ) (c : At) (room : ℕ) (r : Step) → LabelRead text s a b c r → ItemRead text s a b c room r
-item-label text s a b c room r v = record { reads = record { says = λ x σ. v.reads.says x σ room; ahead = v.reads.ahead }; forward = v.forward }
-
-pub label-there : (s : List ℕ) (c : At) (k : ℕ) → k ≡ kind_at s c.at → k ≡ 7 → kind_at s c.at ≡ 7
-label-there s c k e z = sym e ∙ z
-
-pub item-plain : (s : List ℕ) (c : At) (k : ℕ) → NotClosing s c → k ≡ kind_at s c.at → (k ≡ 0 → ⊥) → (k ≡ 7 → ⊥) → Plain s c
-item-plain s c k n e y z = record { not_closing = n.not_closing; not_newline = λ q. y (e ∙ q); not_label = λ q. z (e ∙ q) }
 
 -- ---- a level
 
@@ -200,102 +185,85 @@ pub record Reaches (text s a b : List ℕ) (c : At) (d : ℕ) (i : Bool) (p : At
   pub from : c.at ≤ p.at
   pub fine : Fine text s p
 
-pub reach_start : (text s a : List ℕ) (c : At) (d : ℕ) (i : Bool) → Fine text s c → Reaches text s a a c d i c
-reach_start text s a c d i f = record { says = λ σ. refl; from = omega arith; fine = f }
-
-pub reach_next : (text s a b l : List ℕ) (c p q : At) (d : ℕ) (i : Bool) (r : Step) → Reaches text s a b c d i p → ItemRead text s b l p d r → r ≡ To q → Reaches text s a l c d i q
+pub reach_next : (text s a b l : List ℕ) (c p q : At) (d : ℕ) (i : Bool) → Reaches text s a b c d i p → ItemRead text s b l p d (Ok q) → Reaches text s a l c d i q
 unfolding outcome
-reach_next text s a b l c p q d i r v w u =
-    let o = in_on text s b l p q d r w.reads u in
+reach_next text s a b l c p q d i v w =
+    let o = in_on text s b l p q d w.reads in
     record {
-      says = λ σ. v.says σ ∙ (in_to text s b l p q d r w.reads u).says (nesting_of i) σ;
+      says = λ σ. v.says σ ∙ w.reads.says (nesting_of i) σ;
       from = omega (arith, v.from, o.from);
       fine = o.fine;
     }
 
-pub reach_less : (text s b l : List ℕ) (p q : At) (d : ℕ) (r : Step) → ItemRead text s b l p d r → r ≡ To q → length s - q.at < length s - p.at
+pub reach_less : (text s b l : List ℕ) (p q : At) (d : ℕ) → ItemRead text s b l p d (Ok q) → length s - q.at < length s - p.at
 unfolding Forward
-reach_less text s b l p q d r w u =
-    let o = in_on text s b l p q d r w.reads u in
-    let g : p.at < q.at = subst (λ (x : Step). Forward p x) u w.forward in
+reach_less text s b l p q d w =
+    let o = in_on text s b l p q d w.reads in
+    let g : p.at < q.at = w.forward in
     omega (arith, o.fine.inside)
 
-pub closing_not : (s : List ℕ) (p : At) (k : ℕ) → k ≡ kind_at s p.at → (k ≡ 11 → ⊥) → NotClosing s p
-closing_not s p k e z = record { not_closing = λ y. z (e ∙ y) }
-
-pub item_less : (text s a b : List ℕ) (c p : At) (d : ℕ) (i : Bool) (t : ℕ) → Reaches text s a b c d i p → p.at < length s → 4 * (length s - c.at) + 2 ≡ t → 4 * (length s - p.at) + 1 < t
-item_less text s a b c p d i t v l m = omega (arith, v.from)
-
--- a refusal does not depend on what was to come, nor on how many blocks may open
-gives_up : (text s : List ℕ) (σ τ : List Symbol) (d n : ℕ) (a b : List ℕ) (r : Step) → Refuses r → outcome text s σ d a r ≡ outcome text s τ n b r
-unfolding outcome
-gives_up text s σ τ d n a b (To c) o = absurd (o c refl)
-gives_up text s σ τ d n a b (Bad k) o = refl
-gives_up text s σ τ d n a b (Deep k) o = refl
-
-as_whole : (text s : List ℕ) (σ : List Symbol) (d : ℕ) (a : List ℕ) (r : Step) → Refuses r → outcome text s σ d a r ≡ whole s a r
+as_whole : (text s : List ℕ) (σ : List Symbol) (d : ℕ) (a : List ℕ) (u : Unread) → outcome text s σ d a (Err u) ≡ whole s a (Err u)
 unfolding outcome whole
-as_whole text s σ d a (To c) o = absurd (o c refl)
-as_whole text s σ d a (Bad k) o = refl
-as_whole text s σ d a (Deep k) o = refl
+as_whole text s σ d a (Bad k) = refl
+as_whole text s σ d a (Deep k) = refl
 
 reach_on : {text s a b : List ℕ} {c p : At} {d : ℕ} {i : Bool} → Reaches text s a b c d i p → Onward text s c p
 reach_on v = record { from = v.from; fine = v.fine }
 
-by_nesting : (text s a b : List ℕ) (c : At) (d : ℕ) (i j : Bool) (r : Step) → i ≡ j → LevelRead text s a b c d j r → LevelRead text s a b c d i r
+by_nesting : (text s a b : List ℕ) (c : At) (d : ℕ) (i j : Bool) (r : Result At Unread) → i ≡ j → LevelRead text s a b c d j r → LevelRead text s a b c d i r
 by_nesting text s a b c d i j r e v = subst (λ (x : Bool). LevelRead text s a b c d x r) (sym e) v
 
 reach_as : (text s a b : List ℕ) (c p : At) (d : ℕ) (i j : Bool) → i ≡ j → Reaches text s a b c d i p → Reaches text s a b c d j p
 reach_as text s a b c p d i j e v = subst (λ (x : Bool). Reaches text s a b c d x p) e v
 
 pub level_closes : (text s a b l : List ℕ) (c p q : At) (d k : ℕ) (i : Bool) → Reaches text s a b c d i p → k ≡ kind_at s p.at → k ≡ 11 → i ≡ true → l ≡ set b p.events (log_word 4 0) → q ≡ logged p →
-    LevelRead text s a l c d i (To q)
+    LevelRead text s a l c d i (Ok q)
 unfolding outcome Ahead LevelSays
 level_closes text s a b l c p q d k i v e z t y x =
     let j = kind-known s p.at k 11 e z (omega arith) in
     let m = j.1 in
     let w = reach_as text s a b c p d i true t v in
-    by_nesting text s a l c d i true (To q) t
+    by_nesting text s a l c d i true (Ok q) t
     (rw (y, x) (record {
       says = λ σ. w.says σ ∙ at-step text s p.at (level inner (item no_handlers)) [] σ (out closed) d (log b p) j.0 (rw m);
-      ahead = further_on text s c p (To (logged p)) (reach_on v) (logged_on text s p v.fine j.0);
+      ahead = further_on text s c p (Ok (logged p)) (reach_on v) (logged_on text s p v.fine j.0);
     }))
 
-pub level_close_bad : (text s a b : List ℕ) (c p : At) (d k : ℕ) (i : Bool) → Reaches text s a b c d i p → k ≡ kind_at s p.at → k ≡ 11 → i ≡ false → LevelRead text s a b c d i (Bad p.at)
+pub level_close_bad : (text s a b : List ℕ) (c p : At) (d k : ℕ) (i : Bool) → Reaches text s a b c d i p → k ≡ kind_at s p.at → k ≡ 11 → i ≡ false → LevelRead text s a b c d i (Err (Bad p.at))
 unfolding Ahead LevelSays whole
 level_close_bad text s a b c p d k i v e z t =
     let j = kind-known s p.at k 11 e z (omega arith) in
     let m = j.1 in
     let w = reach_as text s a b c p d i false t v in
-    by_nesting text s a b c d i false (Bad p.at) t
+    by_nesting text s a b c d i false (Err (Bad p.at)) t
     (record { says = w.says [] ∙ at-stop text s p.at (level top (item no_handlers)) [] d (log b p) j.0 (rw m); ahead = v.fine.inside })
 
-pub level_fails : (text s a b l : List ℕ) (c p : At) (d : ℕ) (i : Bool) (r : Step) → Reaches text s a b c d i p → ItemRead text s b l p d r → Refuses r → LevelRead text s a l c d i r
+pub level_fails : (text s a b l : List ℕ) (c p : At) (d : ℕ) (i : Bool) (u : Unread) → Reaches text s a b c d i p → ItemRead text s b l p d (Err u) → LevelRead text s a l c d i (Err u)
 unfolding LevelSays
-level_fails text s a b l c p d true r v w o =
+level_fails text s a b l c p d true u v w =
     record {
-      says = λ σ. v.says σ ∙ w.reads.says inner σ ∙ gives_up text s (level inner (item no_handlers) ∷ σ) σ d (suc d) l l r o;
-      ahead = further_on text s c p r (reach_on v) w.reads.ahead;
+      says = λ σ. v.says σ ∙ w.reads.says inner σ ∙ refusal text s (level inner (item no_handlers) ∷ σ) σ d (suc d) l l u;
+      ahead = further_on text s c p (Err u) (reach_on v) w.reads.ahead;
     }
-level_fails text s a b l c p d false r v w o =
+level_fails text s a b l c p d false u v w =
     record {
-      says = v.says [] ∙ w.reads.says top [] ∙ as_whole text s (level top (item no_handlers) ∷ []) d l r o;
-      ahead = further_on text s c p r (reach_on v) w.reads.ahead;
+      says = v.says [] ∙ w.reads.says top [] ∙ as_whole text s (level top (item no_handlers) ∷ []) d l u;
+      ahead = further_on text s c p (Err u) (reach_on v) w.reads.ahead;
     }
 
-pub level-short : (text s a b : List ℕ) (c p : At) (d : ℕ) (i : Bool) → Reaches text s a b c d i p → length s ≤ p.at → i ≡ true → LevelRead text s a b c d i (Bad p.at)
+pub level-short : (text s a b : List ℕ) (c p : At) (d : ℕ) (i : Bool) → Reaches text s a b c d i p → length s ≤ p.at → i ≡ true → LevelRead text s a b c d i (Err (Bad p.at))
 unfolding outcome Ahead LevelSays
 level-short text s a b c p d i v h t =
     let w = reach_as text s a b c p d i true t v in
-    by_nesting text s a b c d i true (Bad p.at) t
+    by_nesting text s a b c d i true (Err (Bad p.at)) t
     (record { says = λ σ. w.says σ ∙ at-end text s p.at (level inner (item no_handlers)) σ d (log b p) h refl; ahead = v.fine.inside })
 
 text-read : (text s b : List ℕ) (p : At) (d : ℕ) → length s ≤ p.at → judge text s (level top (item no_handlers) ∷ []) d (log b p) p.at ≡ read (log b p)
 unfolding judge
 text-read text s b p d h = rw (lexemes-end text s p.at h)
 
-pub level-whole : (text s a b : List ℕ) (c p : At) (d : ℕ) (i : Bool) → Reaches text s a b c d i p → length s ≤ p.at → i ≡ false → LevelRead text s a b c d i (To p)
+pub level-whole : (text s a b : List ℕ) (c p : At) (d : ℕ) (i : Bool) → Reaches text s a b c d i p → length s ≤ p.at → i ≡ false → LevelRead text s a b c d i (Ok p)
 unfolding Ahead LevelSays whole
 level-whole text s a b c p d i v h t =
     let w = reach_as text s a b c p d i false t v in
-    by_nesting text s a b c d i false (To p) t (record { says = w.says [] ∙ text-read text s b p d h; ahead = reach_on v })
+    by_nesting text s a b c d i false (Ok p) t (record { says = w.says [] ∙ text-read text s b p d h; ahead = reach_on v })

@@ -6,6 +6,7 @@ use Prim.Native.Nat.{ℕ, suc, ◌+◌, ◌≤◌}
 use native.Mathlib.Omega.{arith}
 use lib.ListN.{length, drop, set, length-map}
 use lib.Seq.{sets, sets-eq}
+use Rattle.std.specs.Prelude.{Result, Ok, Err}
 use Rattle.answers.specs.Answers.{accepted, refused}
 use Rattle.lexemes.specs.Lexemes.{Lexeme}
 use Rattle.lexemes.specs.Events.{Event, acted, named, given, opened, closed}
@@ -18,8 +19,8 @@ use Rattle.grammar.specs.Trees.{leading, waiting, givens, events, block-events}
 use Rattle.grammar.proofs.Events.{emits, emits_blocks}
 use Rattle.grammar.proofs.Outcomes.{Means, is_read, not_grammatical, opens_too_deep, meaning}
 use Rattle.operands.specs.declared.At.{At}
-use Rattle.operands.specs.declared.Step.{Step}
-use Rattle.operands.specs.declared.Step.TheVariants.{To, Bad, Deep}
+use Rattle.operands.specs.declared.Unread.{Unread}
+use Rattle.operands.specs.declared.Unread.TheVariants.{Bad, Deep}
 use Rattle.classes.specs.Lexemes.{Sound, lexemes}
 use Rattle.operands.specs.Log.{Log, log, event_word, emit}
 use Rattle.operands.specs.Contract.{judge, Fine, Ahead}
@@ -91,22 +92,22 @@ module _ (text s a b : List ℕ) where
   sort (fault n) = 1
   sort (too_deep n) = 2
 
-  by-verdict : {v : Verdict Log} (r : Step) → length s ≤ length a → Means emit (lexemes text s) (record { words = a; count = 0 }) v → v ≡ whole s b r → Ahead text s (record { at = 0; events = 0 }) r →
+  by-verdict : {v : Verdict Log} (r : Result At Unread) → length s ≤ length a → Means emit (lexemes text s) (record { words = a; count = 0 }) v → v ≡ whole s b r → Ahead text s (record { at = 0; events = 0 }) r →
       Parsed text s a b r
   unfolding whole Ahead Parsed
-  by-verdict (To c) h (is_read {x = x} d o) e g = read-logged c x h (omega (arith, g.fine.events, g.fine.inside)) d o (same_read e)
-  by-verdict (To c) h (not_grammatical k p o) e g = absurd (omega (arith, ap sort e))
-  by-verdict (To c) h (opens_too_deep k p o) e g = absurd (omega (arith, ap sort e))
-  by-verdict (Bad j) h (is_read d o) e g = absurd (omega (arith, ap sort e))
-  by-verdict (Bad j) h (not_grammatical k p o) e g =
+  by-verdict (Ok c) h (is_read {x = x} d o) e g = read-logged c x h (omega (arith, g.fine.events, g.fine.inside)) d o (same_read e)
+  by-verdict (Ok c) h (not_grammatical k p o) e g = absurd (omega (arith, ap sort e))
+  by-verdict (Ok c) h (opens_too_deep k p o) e g = absurd (omega (arith, ap sort e))
+  by-verdict (Err (Bad j)) h (is_read d o) e g = absurd (omega (arith, ap sort e))
+  by-verdict (Err (Bad j)) h (not_grammatical k p o) e g =
       let q : k ≡ j = omega (arith, same-fault e, lexemes-length text s) in subst (λ (i : ℕ). Outcome (lexemes text s) (refused 6 i)) q o
-  by-verdict (Bad j) h (opens_too_deep k p o) e g = absurd (omega (arith, ap sort e))
-  by-verdict (Deep j) h (is_read d o) e g = absurd (omega (arith, ap sort e))
-  by-verdict (Deep j) h (not_grammatical k p o) e g = absurd (omega (arith, ap sort e))
-  by-verdict (Deep j) h (opens_too_deep k p o) e g =
+  by-verdict (Err (Bad j)) h (opens_too_deep k p o) e g = absurd (omega (arith, ap sort e))
+  by-verdict (Err (Deep j)) h (is_read d o) e g = absurd (omega (arith, ap sort e))
+  by-verdict (Err (Deep j)) h (not_grammatical k p o) e g = absurd (omega (arith, ap sort e))
+  by-verdict (Err (Deep j)) h (opens_too_deep k p o) e g =
       let q : k ≡ j = omega (arith, same-deep e, lexemes-length text s) in subst (λ (i : ℕ). Outcome (lexemes text s) (refused 7 i)) q o
 
-  pub parsed : (r : Step) → length s ≤ length a → LevelRead text s a b (record { at = 0; events = 0 }) 64 false r → Parsed text s a b r
+  pub parsed : (r : Result At Unread) → length s ≤ length a → LevelRead text s a b (record { at = 0; events = 0 }) 64 false r → Parsed text s a b r
   unfolding LevelSays judge
   parsed r h v = by-verdict r h (meaning emit (lexemes text s) (record { words = a; count = 0 })) v.says v.ahead
 

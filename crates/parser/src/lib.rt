@@ -11,7 +11,7 @@ ghost use Rattle.parser.specs.Parsed.{Parsed};
 
 use actions::action_number;
 use classes::{Class, fits_at, kind_at};
-use operands::{At, Step, logged, operands, passed, write_event};
+use operands::{At, Unread, logged, operands, passed, write_event};
 use shapes::{Shape, shape_of};
 use tokens::{TokenKind, token_of};
 
@@ -41,13 +41,6 @@ const OPENED: u64 = 3;
 
 const CLOSED: u64 = 4;
 
-// A Try's target: none, or the token at a place.
-#[derive(Clone, Copy)]
-pub enum CatchTarget {
-    Nothing,
-    Token(usize),
-}
-
 // What follows a block of a Try: no newline, or, behind all newlines, the place of another item or of a handler's word.
 #[derive(Clone, Copy)]
 pub enum Handler {
@@ -69,49 +62,40 @@ pub enum BlockKind {
 // ---- leaves
 
 // The newline behind an action, or the end of the text.
-fn end_of_action(text: &[u8], s: &[u64], c: At) -> Step
+fn end_of_action(text: &[u8], s: &[u64], c: At) -> Result<At, Unread>
     requires { Fine text.now s.now c }
     ensures { EndRead text.now s.now c result }
 {
-    let at = c.at;
-    if at < s.len() {
-        let k = kind_at(s, at);
-        if k == NEWLINE {
-            let d = passed(c);
-            Step::To(d)
+    if c.at < s.len() {
+        if kind_at(s, c.at) == NEWLINE {
+            Ok(passed(c))
         } else {
-            Step::Bad(at)
+            Err(Unread::Bad(c.at))
         }
     } else {
-        Step::To(c)
+        Ok(c)
     }
 }
 
-fn colon(text: &[u8], s: &[u64], c: At) -> Step
+fn colon(text: &[u8], s: &[u64], c: At) -> Result<At, Unread>
     requires { Fine text.now s.now c }
     ensures { ColonRead text.now s.now c result }
 {
-    let at = c.at;
-    let k = kind_at(s, at);
-    if k == COLON {
-        let d = passed(c);
-        Step::To(d)
+    if kind_at(s, c.at) == COLON {
+        Ok(passed(c))
     } else {
-        Step::Bad(at)
+        Err(Unread::Bad(c.at))
     }
 }
 
 // A label: its name, which stands at c, and the colon.
-fn label(text: &[u8], s: &[u64], events: &mut [u64], c: At) -> Step
+fn label(text: &[u8], s: &[u64], events: &mut [u64], c: At) -> Result<At, Unread>
     requires fine { Fine text.now s.now c }
     requires at_value { kind_at s.now c.at ≡ 7 }
     ensures { LabelRead text.now s.now events.old events.new c result }
 {
-    let at = c.at;
-    let n = c.events;
-    write_event(events, n, NAMED, at as u64);
-    let d = logged(c);
-    colon(text, s, d)
+    write_event(events, c.events, NAMED, c.at as u64);
+    colon(text, s, logged(c))
 }
 
 // The first place from `at` on that has no newline.
@@ -119,15 +103,12 @@ fn newlines(text: &[u8], s: &[u64], at: usize) -> usize
     requires { at ≤ length s.now }
     ensures { NewlinesRead text.now s.now at result }
 {
-    let mut p = at;
-    while p < s.len() {
-        let k = kind_at(s, p);
-        if k != NEWLINE {
+    for p in at..s.len() {
+        if kind_at(s, p) != NEWLINE {
             return p;
         }
-        p = p + 1;
     }
-    p
+    s.len()
 }
 
 // The newlines behind a block of a Try, and the one token behind them.
@@ -135,12 +116,10 @@ fn next_handler(text: &[u8], s: &[u64], c: At) -> Handler
     requires { Fine text.now s.now c }
     ensures { HandlerRead text.now s.now c result }
 {
-    let at = c.at;
-    let k = kind_at(s, at);
-    if k != NEWLINE {
+    if kind_at(s, c.at) != NEWLINE {
         return Handler::NoNewline;
     }
-    let q = newlines(text, s, at + 1);
+    let q = newlines(text, s, c.at + 1);
     let n = kind_at(s, q);
     if n == CATCH {
         return Handler::Catch(q);
@@ -152,26 +131,24 @@ fn next_handler(text: &[u8], s: &[u64], c: At) -> Handler
 }
 
 // A string or a register before the block of a Try.
-fn try_target(text: &[u8], s: &[u64], c: At) -> CatchTarget
+fn try_target(text: &[u8], s: &[u64], c: At) -> Option<usize>
     requires { Fine text.now s.now c }
     ensures { TargetRead text.now s.now c result }
 {
-    let at = c.at;
-    let ok = fits_at(text, s, at, Class::Target);
-    if ok {
-        CatchTarget::Token(at)
+    if fits_at(text, s, c.at, Class::Target) {
+        Some(c.at)
     } else {
-        CatchTarget::Nothing
+        None
     }
 }
 
-fn past_target(c: At, a: CatchTarget) -> At
+fn past_target(c: At, a: Option<usize>) -> At
     requires { c.at ≤ 65536 }
     ensures { result ≡ past_target c a }
 {
     match a {
-        CatchTarget::Nothing => c,
-        CatchTarget::Token(_) => passed(c),
+        None => c,
+        Some(_) => passed(c),
     }
 }
 
@@ -185,15 +162,14 @@ fn move_to(c: At, q: usize) -> At
 }
 
 // The target as an operand: a catch block follows.
-fn give_target(events: &mut [u64], c: At, a: CatchTarget) -> At
+fn give_target(events: &mut [u64], c: At, a: Option<usize>) -> At
     requires { GiveAsked c a }
     ensures { GiveRead events.old events.new c a result }
 {
     match a {
-        CatchTarget::Nothing => c,
-        CatchTarget::Token(t) => {
-            let n = c.events;
-            write_event(events, n, GIVEN, t as u64);
+        None => c,
+        Some(t) => {
+            write_event(events, c.events, GIVEN, t as u64);
             At {
                 at: c.at,
                 events: c.events + 1,
@@ -217,45 +193,46 @@ fn block_number(b: BlockKind) -> u64
 
 // The labels and actions of a level, up to the brace that closes it or the end of the text.
 #[cycle(parser)]
-fn actions(text: &[u8], s: &[u64], events: &mut [u64], c: At, room: usize, inside: bool) -> Step
+fn actions(
+    text: &[u8],
+    s: &[u64],
+    events: &mut [u64],
+    c: At,
+    room: usize,
+    inside: bool,
+) -> Result<At, Unread>
     requires { Fine text.now s.now c }
     ensures { LevelRead text.now s.now events.old events.new c room inside result }
 {
     let mut p = c;
     while p.at < s.len() {
-        let at = p.at;
-        let k = kind_at(s, at);
-        if k == CLOSE_BRACE {
+        if kind_at(s, p.at) == CLOSE_BRACE {
             if inside {
-                let n = p.events;
-                write_event(events, n, CLOSED, 0);
-                let d = logged(p);
-                return Step::To(d);
+                write_event(events, p.events, CLOSED, 0);
+                return Ok(logged(p));
             }
-            return Step::Bad(at);
+            return Err(Unread::Bad(p.at));
         }
-        let r = item(text, s, events, p, room);
-        let Step::To(q) = r else {
-            return r;
-        };
-        p = q;
+        p = item(text, s, events, p, room)?;
     }
-    if inside { Step::Bad(p.at) } else { Step::To(p) }
+    if inside {
+        Err(Unread::Bad(p.at))
+    } else {
+        Ok(p)
+    }
 }
 
 // A newline, a label, or an action with what must follow it.
 #[cycle(parser)]
-fn item(text: &[u8], s: &[u64], events: &mut [u64], c: At, room: usize) -> Step
+fn item(text: &[u8], s: &[u64], events: &mut [u64], c: At, room: usize) -> Result<At, Unread>
     requires fine { Fine text.now s.now c }
     requires at_in_bounds { c.at < length s.now }
     requires not_closing { NotClosing s.now c }
     ensures { ItemRead text.now s.now events.old events.new c room result }
 {
-    let at = c.at;
-    let k = kind_at(s, at);
+    let k = kind_at(s, c.at);
     if k == NEWLINE {
-        let d = passed(c);
-        return Step::To(d);
+        return Ok(passed(c));
     }
     if k == IDENTIFIER {
         return label(text, s, events, c);
@@ -265,40 +242,43 @@ fn item(text: &[u8], s: &[u64], events: &mut [u64], c: At, room: usize) -> Step
 
 // An action, by the name that its word's kind carries, and what must follow it.
 #[cycle(parser)]
-fn action(text: &[u8], s: &[u64], events: &mut [u64], c: At, room: usize) -> Step
+fn action(text: &[u8], s: &[u64], events: &mut [u64], c: At, room: usize) -> Result<At, Unread>
     requires fine { Fine text.now s.now c }
     requires at_in_bounds { c.at < length s.now }
     requires plain { Plain s.now c }
     ensures { ItemRead text.now s.now events.old events.new c room result }
 {
-    let at = c.at;
-    let t = token_of(s[at]);
-    let kind = t.kind;
-    let TokenKind::ActionName(name) = kind else {
-        return Step::Bad(at);
+    let TokenKind::ActionName(name) = token_of(s[c.at]).kind else {
+        return Err(Unread::Bad(c.at));
     };
-    let n = c.events;
-    let j = action_number(name);
-    write_event(events, n, ACTED, j as u64);
-    let d = logged(c);
+    write_event(events, c.events, ACTED, action_number(name) as u64);
     let w = shape_of(name);
-    let r = operands(text, s, events, d, w);
-    let Step::To(p) = r else {
-        return r;
-    };
+    let p = operands(text, s, events, logged(c), w)?;
     blocks(text, s, events, p, room, w)
 }
 
 // The blocks behind an action's operands, and the action's end.
 #[cycle(parser)]
-fn blocks(text: &[u8], s: &[u64], events: &mut [u64], c: At, room: usize, w: Shape) -> Step
+fn blocks(
+    text: &[u8],
+    s: &[u64],
+    events: &mut [u64],
+    c: At,
+    room: usize,
+    w: Shape,
+) -> Result<At, Unread>
     requires { Fine text.now s.now c }
     ensures { BlocksRead w text.now s.now events.old events.new c room result }
 {
     match w {
-        Shape::Function => last_block(text, s, events, c, room, BlockKind::Body),
-        Shape::Function2 => last_block(text, s, events, c, room, BlockKind::Body),
-        Shape::Block => last_block(text, s, events, c, room, BlockKind::Body),
+        Shape::Function | Shape::Function2 | Shape::Block => last_block(
+            text,
+            s,
+            events,
+            c,
+            room,
+            BlockKind::Body,
+        ),
         Shape::Try => try_catch(text, s, events, c, room),
         _ => end_of_action(text, s, c),
     }
@@ -306,55 +286,65 @@ fn blocks(text: &[u8], s: &[u64], events: &mut [u64], c: At, room: usize, w: Sha
 
 // A block that no other block of its action can follow.
 #[cycle(parser)]
-fn last_block(text: &[u8], s: &[u64], events: &mut [u64], c: At, room: usize, b: BlockKind) -> Step
+fn last_block(
+    text: &[u8],
+    s: &[u64],
+    events: &mut [u64],
+    c: At,
+    room: usize,
+    b: BlockKind,
+) -> Result<At, Unread>
     requires { Fine text.now s.now c }
     ensures { LastBlockRead b text.now s.now events.old events.new c room result }
 {
-    let r = block(text, s, events, c, room, b);
-    let Step::To(p) = r else {
-        return r;
-    };
+    let p = block(text, s, events, c, room, b)?;
     end_of_action(text, s, p)
 }
 
 #[cycle(parser)]
-fn block(text: &[u8], s: &[u64], events: &mut [u64], c: At, room: usize, b: BlockKind) -> Step
+fn block(
+    text: &[u8],
+    s: &[u64],
+    events: &mut [u64],
+    c: At,
+    room: usize,
+    b: BlockKind,
+) -> Result<At, Unread>
     requires { Fine text.now s.now c }
     ensures { BlockRead b text.now s.now events.old events.new c room result }
 {
-    let at = c.at;
-    let k = kind_at(s, at);
-    if k != OPEN_BRACE {
-        return Step::Bad(at);
+    if kind_at(s, c.at) != OPEN_BRACE {
+        return Err(Unread::Bad(c.at));
     }
     if room == 0 {
-        return Step::Deep(at);
+        return Err(Unread::Deep(c.at));
     }
-    let n = c.events;
-    let j = block_number(b);
-    write_event(events, n, OPENED, j);
-    let d = logged(c);
-    actions(text, s, events, d, room - 1, true)
+    write_event(events, c.events, OPENED, block_number(b));
+    actions(text, s, events, logged(c), room - 1, true)
 }
 
 // The blocks of a Try, with its target, and its end.
 #[cycle(parser)]
-fn try_catch(text: &[u8], s: &[u64], events: &mut [u64], c: At, room: usize) -> Step
+fn try_catch(text: &[u8], s: &[u64], events: &mut [u64], c: At, room: usize) -> Result<At, Unread>
     requires { Fine text.now s.now c }
     ensures { TryRead text.now s.now events.old events.new c room result }
 {
     let a = try_target(text, s, c);
     let d = past_target(c, a);
-    let r = block(text, s, events, d, room, BlockKind::Try);
-    let Step::To(p) = r else {
-        return r;
-    };
+    let p = block(text, s, events, d, room, BlockKind::Try)?;
     handlers(text, s, events, p, room, a)
 }
 
 // What follows the try block: a catch block, to which the target belongs, and what follows that.
 #[cycle(parser)]
-fn handlers(text: &[u8], s: &[u64], events: &mut [u64], c: At, room: usize, a: CatchTarget) -> Step
+fn handlers(
+    text: &[u8],
+    s: &[u64],
+    events: &mut [u64],
+    c: At,
+    room: usize,
+    a: Option<usize>,
+) -> Result<At, Unread>
     requires fine { Fine text.now s.now c }
     requires target_before { TargetBefore c a }
     ensures { HandlersRead a text.now s.now events.old events.new c room result }
@@ -365,36 +355,40 @@ fn handlers(text: &[u8], s: &[u64], events: &mut [u64], c: At, room: usize, a: C
     };
     let e = move_to(c, q + 1);
     let f = give_target(events, e, a);
-    let y = block(text, s, events, f, room, BlockKind::Catch);
-    let Step::To(p) = y else {
-        return y;
-    };
+    let p = block(text, s, events, f, room, BlockKind::Catch)?;
     let z = next_handler(text, s, p);
     last_handler(text, s, events, p, room, z)
 }
 
 // A finally block and the action's end, or the end alone. A catch block cannot follow any more.
 #[cycle(parser)]
-fn last_handler(text: &[u8], s: &[u64], events: &mut [u64], c: At, room: usize, x: Handler) -> Step
+fn last_handler(
+    text: &[u8],
+    s: &[u64],
+    events: &mut [u64],
+    c: At,
+    room: usize,
+    x: Handler,
+) -> Result<At, Unread>
     requires fine { Fine text.now s.now c }
     requires handler_read { HandlerRead text.now s.now c x }
     ensures { LastRead x text.now s.now events.old events.new c room result }
 {
     match x {
         Handler::NoNewline => end_of_action(text, s, c),
-        Handler::Item(q) => Step::To(move_to(c, q)),
+        Handler::Item(q) => Ok(move_to(c, q)),
         Handler::Finally(q) => {
             let e = move_to(c, q + 1);
             last_block(text, s, events, e, room, BlockKind::Finally)
         }
-        Handler::Catch(q) => Step::Bad(q),
+        Handler::Catch(q) => Err(Unread::Bad(q)),
     }
 }
 
 // ---- the whole list
 
 // Reads the tokens of a text, and logs what they are.
-pub fn parse(text: &[u8], s: &[u64], events: &mut [u64]) -> Step
+pub fn parse(text: &[u8], s: &[u64], events: &mut [u64]) -> Result<At, Unread>
     requires sound { Sound text.now s.now }
     requires s_in_bounds { length s.now ≤ length events.old }
     ensures { Parsed text.now s.now events.old events.new result }

@@ -23,7 +23,7 @@ use Rattle.grammar.specs.Reading.{reading_of}
 use Rattle.grammar.specs.Refusals.{Outcome, Answers, rows₁₋₅, rows₆₋₇}
 use Rattle.grammar.proofs.Sizes.{fits-size, fits_halves, blocks-opened}
 use Rattle.operands.specs.declared.At.{At}
-use Rattle.operands.specs.declared.Step.TheVariants.{To, Bad, Deep}
+use Rattle.operands.specs.declared.Unread.TheVariants.{Bad, Deep}
 use Rattle.classes.specs.Lexemes.{lexemes, Sound}
 use Rattle.operands.proofs.Places.{lexemes-length}
 use Rattle.parser.specs.Parsed as P
@@ -99,11 +99,11 @@ module _ (text : List ℕ) (room : ℕ) (b : length text ≤ 65536) (u : length 
         refused-by : (m k : ℕ) → Outcome (lexemes text (take n z)) (refused m k) → (places : List ℕ) → Answers room places text (refused m k)
         refused-by m k o places = rows₆₋₇ lexed.lexed (subst (λ (ts : List Lexeme). Outcome ts (refused m k)) same-lexemes o)
 
-        pub row6 : (a e : List ℕ) (k : ℕ) → Parsed text (take n z) a e (Bad k) → (places : List ℕ) → Answers room places text (refused 6 k)
+        pub row6 : (a e : List ℕ) (k : ℕ) → Parsed text (take n z) a e (Err (Bad k)) → (places : List ℕ) → Answers room places text (refused 6 k)
         unfolding Parsed
         row6 a e k o = refused-by 6 k o
 
-        pub row7 : (a e : List ℕ) (k : ℕ) → Parsed text (take n z) a e (Deep k) → (places : List ℕ) → Answers room places text (refused 7 k)
+        pub row7 : (a e : List ℕ) (k : ℕ) → Parsed text (take n z) a e (Err (Deep k)) → (places : List ℕ) → Answers room places text (refused 7 k)
         unfolding Parsed
         row7 a e k o = refused-by 7 k o
 
@@ -143,7 +143,7 @@ module _ (text : List ℕ) (room : ℕ) (b : length text ≤ 65536) (u : length 
                 events = omega (arith, words_count, ap length (events_are p), p.count, events_in p);
               }
 
-          pub row_none : n ≤ length z → n ≤ length (e ++ rest) → Parsed text (take n z) a e (To c)
+          pub row_none : n ≤ length z → n ≤ length (e ++ rest) → Parsed text (take n z) a e (Ok c)
               → Logged text room (take n z) (take c.events (e ++ rest)) × ((n ≤ length z) × (c.events ≤ length (e ++ rest)))
           unfolding Parsed
           row_none v w p = (logged p, (v, omega (arith, w, events_in p)))

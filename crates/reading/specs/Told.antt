@@ -1,6 +1,7 @@
 -- What leads from a text to the tables of its reading: its tokens and the log of its tree, then its tables, then the lent ones.
-use Rattle.std.specs.Prelude.{◌≡◌, List, map, ℕ, ◌*◌, ◌≤◌, ◌<◌, length, take, get_or}
+use Rattle.std.specs.Prelude.{◌≡◌, List, map, ℕ, ◌*◌, ◌≤◌, ◌<◌, length, take, get_or, Result, Ok, Err}
 use Rattle.answers.specs.Answers.{accepted, refusal}
+use Rattle.answers.specs.declared.Refusal.{Refusal}
 use Rattle.lexer.specs.Lexing.{lex_text}
 use Rattle.tokens.specs.declared.Token.{Token}
 use Rattle.tokens.specs.Tokens.{word_of}
@@ -12,8 +13,7 @@ use Rattle.grammar.specs.Refusals.{Outcome, Answers}
 use Rattle.grammar.specs.Trees.{size}
 use Rattle.classes.specs.Lexemes.{lexeme_of}
 use Rattle.parser.specs.Parsed.{log_of}
-use Rattle.reading.specs.declared.Parsing.{Parsing}
-use Rattle.reading.specs.declared.Parsing.TheVariants as P
+use Rattle.reading.specs.declared.Parsed.{Parsed}
 use Rattle.reading.specs.Trees.{AllOf, named_of}
 use Rattle.reading.specs.Tables.{front, action_words, operand_words, level_words}
 
@@ -45,9 +45,9 @@ pub record Logged (text : List ℕ) (room : ℕ) (s log : List ℕ) : Type 0 whe
   pub events : length log ≤ length s
 
 -- refusals 3 to 7, whatever the other tables; or the tokens and the events at the front of their tables
-unfoldable pub Parses : List ℕ → ℕ → List ℕ → List ℕ → Parsing → Type 0
-Parses text room s log (P.Refused r) = (places : List ℕ) → Answers room places text (refusal r)
-Parses text room s log (P.Events n e) = Logged text room (take n s) (take e log) × ((n ≤ length s) × (e ≤ length log))
+unfoldable pub Parses : List ℕ → ℕ → List ℕ → List ℕ → Result Parsed Refusal → Type 0
+Parses text room s log (Err r) = (places : List ℕ) → Answers room places text (refusal r)
+Parses text room s log (Ok p) = Logged text room (take p.tokens s) (take p.events log) × ((p.tokens ≤ length s) × (p.events ≤ length log))
 
 -- ---- the lent tables
 

@@ -6,37 +6,37 @@ ghost use Rattle.utf8.specs.Utf8.{valid_up_to};
 ghost use Rattle.reading.specs.Told.{Parses};
 
 use answers::Refusal;
-use operands::Step;
+use operands::Unread;
 
-// How many tokens and events there are, or refusals 3 to 7.
+// How many tokens and events there are.
 #[derive(Clone, Copy)]
-pub enum Parsing {
-    Refused(Refusal),
-    Events(usize, usize),
+pub struct Parsed {
+    pub tokens: usize,
+    pub events: usize,
 }
 
-// Lexes and parses a text of UTF-8 whose tokens get `room` places in the end.
-pub fn parse_text(text: &[u8], room: usize, s: &mut [u64], log: &mut [u64]) -> Parsing
+// Lexes and parses a text of UTF-8 whose tokens get `room` places in the end, or refusals 3 to 7.
+pub fn parse_text(
+    text: &[u8],
+    room: usize,
+    s: &mut [u64],
+    log: &mut [u64],
+) -> Result<Parsed, Refusal>
     requires text_len_bound { length text.now ≤ 65536 }
     requires text_len_bound_2 { length text.now ≤ valid_up_to text.now }
     requires text_in_bounds { (length text.now ≤ length s.old) × (length text.now ≤ length log.old) }
     ensures { Parses text.now room s.new log.new result }
 {
-    let lexing = lexer::lex_into(text, s);
-    match lexing {
-        Err(r) => Parsing::Refused(r),
-        Ok(n) => {
-            if room < n {
-                return Parsing::Refused(Refusal::TokenTableShort(n));
-            }
-            let words = &s[..n];
-            let events = &mut log[..n];
-            let step = parser::parse(text, words, events);
-            match step {
-                Step::To(c) => Parsing::Events(n, c.events),
-                Step::Bad(k) => Parsing::Refused(Refusal::NotGrammatical(k)),
-                Step::Deep(k) => Parsing::Refused(Refusal::TooDeep(k)),
-            }
-        }
+    let tokens = lexer::lex_into(text, s)?;
+    if room < tokens {
+        return Err(Refusal::TokenTableShort(tokens));
+    }
+    match parser::parse(text, &s[..tokens], &mut log[..tokens]) {
+        Ok(c) => Ok(Parsed {
+            tokens,
+            events: c.events,
+        }),
+        Err(Unread::Bad(k)) => Err(Refusal::NotGrammatical(k)),
+        Err(Unread::Deep(k)) => Err(Refusal::TooDeep(k)),
     }
 }

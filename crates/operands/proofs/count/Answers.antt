@@ -2,10 +2,8 @@
 use Rattle.operands.proofs.Forms.{count_ok, count-bad}
 use Rattle.operands.proofs.count.Goals as goal
 
-pub returns-then-ok : goal.returns-then-ok
-returns-then-ok c =
-    search count_ok
+pub returns-then-is_count : goal.returns-then-is_count
+returns-then-is_count c = search count_ok
 
-pub returns-else-ok : goal.returns-else-ok
-returns-else-ok c =
-    search count-bad
+pub returns-else-is_count : goal.returns-else-is_count
+returns-else-is_count c = search count-bad

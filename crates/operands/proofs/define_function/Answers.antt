@@ -1,16 +1,13 @@
 -- `operands::define_function` meets its contract. Assumes nothing.
 use Rattle.operands.proofs.Forms.{function_ok, function-bad}
-use Rattle.operands.proofs.Runs.{fine-to}
+use Rattle.operands.proofs.Runs.{met, fine-to}
 use Rattle.operands.proofs.define_function.Goals as goal
 
-pub returns-in_default : goal.returns-in_default
-returns-in_default c =
-    search (function-bad, c.in_default.not-To)
+pub returns-in_err-d : goal.returns-in_err-d
+returns-in_err-d c = rw (met c.from_residual.ensures.1) (search (function-bad, c.in_err-d.ensures))
 
 pub names-requires : goal.names-requires
-names-requires c =
-    search fine-to
+names-requires c = search (fine-to, c.in_ok-d.ensures)
 
 pub returns : goal.returns
-returns c =
-    search function_ok
+returns c = search (function_ok, c.in_ok-d.ensures)

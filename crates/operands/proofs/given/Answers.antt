@@ -3,5 +3,4 @@ use Rattle.operands.proofs.Runs.{given_ok}
 use Rattle.operands.proofs.given.Goals as goal
 
 pub returns : goal.returns
-returns c =
-    search given_ok
+returns c = search given_ok

@@ -1,20 +1,16 @@
 -- `operands::goto_frame_2` meets its contract. Assumes nothing.
 use Rattle.operands.proofs.Forms.{frame_biased, frame-plain, frame-bad}
-use Rattle.operands.proofs.Runs.{fine-to}
+use Rattle.operands.proofs.Runs.{fine-to, met}
 use Rattle.operands.proofs.goto_frame_2.Goals as goal
 
-pub returns-in_default : goal.returns-in_default
-returns-in_default c =
-    search (frame-bad, c.in_default.not-To)
+pub returns-in_err-d : goal.returns-in_err-d
+returns-in_err-d c = rw (met c.from_residual.ensures.1) (search (frame-bad, c.in_err-d.ensures))
 
 pub next_operand-requires : goal.next_operand-requires
-next_operand-requires c =
-    search fine-to
+next_operand-requires c = search (fine-to, c.in_ok-d.ensures)
 
 pub returns-then-k-eq-TRUE : goal.returns-then-k-eq-TRUE
-returns-then-k-eq-TRUE c =
-    search frame_biased
+returns-then-k-eq-TRUE c = search (frame_biased, c.in_ok-d.ensures)
 
 pub returns-else-k-eq-TRUE : goal.returns-else-k-eq-TRUE
-returns-else-k-eq-TRUE c =
-    search frame-plain
+returns-else-k-eq-TRUE c = search (frame-plain, c.in_ok-d.ensures)

@@ -2,29 +2,23 @@
 use borrow.Author.Rules.{rules}
 use mathlib.Core.Path.{refl}
 use Rattle.operands.proofs.Forms.{values-start, values-next, values-bad, values-end, values_past, values_less}
-use Rattle.operands.proofs.Runs.{fine-to}
+use Rattle.operands.proofs.Runs.{fine-to, met}
 use Rattle.operands.proofs.more_values.Goals as goal
 
 pub loop-m-init : goal.loop-m-init
-loop-m-init c =
-    (search values-start, search rules, refl)
+loop-m-init c = (search values-start, search rules, refl)
 
-pub returns-then-k-ne-COMMA : goal.returns-then-k-ne-COMMA
-returns-then-k-ne-COMMA c =
-    search values-end
+pub operand-requires : goal.operand-requires
+operand-requires c = search values_past
 
-pub operand-r-requires : goal.operand-r-requires
-operand-r-requires c =
-    search values_past
-
-pub returns-in_default : goal.returns-in_default
-returns-in_default c =
-    search (values-bad, c.in_default.not-To)
+pub returns-in_err-p : goal.returns-in_err-p
+returns-in_err-p c = rw (met c.from_residual.ensures.1) (search (values-bad, c.in_err-p.ensures))
 
 pub loop-m-smaller : goal.loop-m-smaller
-loop-m-smaller c =
-    search values_less
+loop-m-smaller c = search (values_less, c.in_ok-p.ensures)
 
 pub loop-m-preserved : goal.loop-m-preserved
-loop-m-preserved c =
-    (search values-next, search fine-to, search rules)
+loop-m-preserved c = (search (values-next, c.in_ok-p.ensures), search (fine-to, c.in_ok-p.ensures), search rules)
+
+pub returns : goal.returns
+returns c = search values-end

@@ -1,13 +1,9 @@
 -- `operands::pairs` meets its contract. Assumes nothing.
 use mathlib.Core.Path.{◌≡◌}
-use Prim.Native.Nat.{◌-◌}
 use lib.ListN.{length}
 use Rattle.operands.proofs.Forms.{Pairing}
 use Rattle.operands.specs.Contract.{Fine}
 use Rattle.operands.proofs.pairs.Given as goal
 
-abbrev pub invariant-loop-i : goal.invariant-loop-i
-invariant-loop-i l = Pairing l.n l.i l.text l.s l.initial.events l.events l.initial.p l.p × Fine l.text l.s l.p × (length l.events ≡ length l.initial.events)
-
-abbrev pub decreases-loop-i : goal.decreases-loop-i
-decreases-loop-i l = l.n - l.i
+abbrev pub invariant-loop : goal.invariant-loop
+invariant-loop l = Pairing l.n l.counter l.text l.s l.initial.events l.events l.initial.p l.p × Fine l.text l.s l.p × (length l.events ≡ length l.initial.events)

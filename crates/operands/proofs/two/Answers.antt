@@ -1,16 +1,13 @@
 -- `operands::two` meets its contract. Assumes nothing.
 use Rattle.operands.proofs.Forms.{two_ok, two_bad}
-use Rattle.operands.proofs.Runs.{fine-to}
+use Rattle.operands.proofs.Runs.{met, fine-to}
 use Rattle.operands.proofs.two.Goals as goal
 
-pub returns-in_default : goal.returns-in_default
-returns-in_default c =
-    search (two_bad, c.in_default.not-To)
+pub returns-in_err-d : goal.returns-in_err-d
+returns-in_err-d c = rw (met c.from_residual.ensures.1) (search (two_bad, c.in_err-d.ensures))
 
 pub next_operand-requires : goal.next_operand-requires
-next_operand-requires c =
-    search fine-to
+next_operand-requires c = search (fine-to, c.in_ok-d.ensures)
 
 pub returns : goal.returns
-returns c =
-    search two_ok
+returns c = search (two_ok, c.in_ok-d.ensures)

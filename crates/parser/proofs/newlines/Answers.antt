@@ -3,17 +3,13 @@ use Rattle.parser.proofs.Leaves.{skip_start, skip_next, skip_ends, skip_over}
 use Rattle.parser.proofs.newlines.Goals as goal
 
 pub loop-p-init : goal.loop-p-init
-loop-p-init c =
-    search skip_start
+loop-p-init c = search skip_start
 
-pub returns-then-k-ne-NEWLINE : goal.returns-then-k-ne-NEWLINE
-returns-then-k-ne-NEWLINE c =
-    search skip_ends
+pub returns-then-kind_at-ne-NEWLINE : goal.returns-then-kind_at-ne-NEWLINE
+returns-then-kind_at-ne-NEWLINE c = search skip_ends
 
 pub loop-p-preserved : goal.loop-p-preserved
-loop-p-preserved c =
-    search skip_next
+loop-p-preserved c = search skip_next
 
 pub returns : goal.returns
-returns c =
-    search skip_over
+returns c = search skip_over
