@@ -6,7 +6,7 @@ ghost use Rattle.utf8.specs.Utf8.{valid_up_to};
 ghost use Rattle.reading.specs.Told.{Parses};
 
 use answers::Refusal;
-use operands::Unread;
+use operands::{At, Unread};
 
 // How many tokens and events there are.
 #[derive(Clone, Copy)]
@@ -32,10 +32,7 @@ pub fn parse_text(
         return Err(Refusal::TokenTableShort(tokens));
     }
     match parser::parse(text, &s[..tokens], &mut log[..tokens]) {
-        Ok(c) => Ok(Parsed {
-            tokens,
-            events: c.events,
-        }),
+        Ok(At { events, .. }) => Ok(Parsed { tokens, events }),
         Err(Unread::Bad(k)) => Err(Refusal::NotGrammatical(k)),
         Err(Unread::Deep(k)) => Err(Refusal::TooDeep(k)),
     }

@@ -7,7 +7,6 @@ ghost use Rattle.handover.specs.Reading.{ReadsWords as Reads, held_in, SameSlice
 
 use answers::Refusal;
 use handover::{Counts, Tables, read_log};
-use reading::Parsing;
 
 // Reads over scratch of N places for the tokens and for the log.
 #[inline(never)]
@@ -20,15 +19,10 @@ fn read_over<const N: usize>(text: &[u8], tables: &mut Tables) -> Result<Counts,
     let mut s = [0u64; N];
     let mut log = [0u64; N];
     let room = tables.tokens.len();
-    let parsing = reading::parse_text(text, room, &mut s, &mut log);
-    match parsing {
-        Parsing::Refused(r) => Err(r),
-        Parsing::Events(n, e) => {
-            let words = &s[..n];
-            let events = &log[..e];
-            read_log(text, words, events, tables)
-        }
-    }
+    let parsed = reading::parse_text(text, room, &mut s, &mut log)?;
+    let words = &s[..parsed.tokens];
+    let events = &log[..parsed.events];
+    read_log(text, words, events, tables)
 }
 
 // Reads a text that rows 1 and 2 do not refuse. A small text does not pay for the scratch of a large one.
