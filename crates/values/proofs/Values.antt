@@ -1,5 +1,5 @@
 -- Values by what was looked up. Assumes nothing.
-use mathlib.Core.Path.{◌≡◌, refl, sym, ap, ◌∙◌}
+use mathlib.Core.Path.{◌≡◌, refl, ◌∙◌}
 use mathlib.Core.Bool.{Bool, true, false, and-false}
 use mathlib.Core.List.{List, [], ◌∷◌}
 use Prim.Native.Nat.{ℕ, ◌≤◌, ◌<◌}
@@ -10,25 +10,19 @@ use lib.ListN.{length}
 use mir.Val.{has_key}
 use types.Run.{OneOf}
 use borrow.Author.Tests.{lt-ltb, le-ltb, le-leb, lt-leb}
-use Rattle.std.specs.Prelude.{Option}
-use lib.IntN.{ℤ}
 use Rattle.answers.specs.Answers.{Answer, accepted, refused}
 use Rattle.tokens.specs.contracts.TokenKind.{the_type}
 use Rattle.tokens.specs.declared.TokenKind.{TokenKind}
 use Rattle.tokens.specs.declared.TokenKind.TheVariants as K
 use Rattle.tokens.specs.declared.Span.{Span}
 use Rattle.tokens.specs.declared.Token.{Token}
-use Rattle.tokens.specs.Kinds.{is_kind}
 use Rattle.tokens.proofs.Arms.{key_there}
-use Rattle.tokens.specs.Tokens.{part, raw_text}
+use Rattle.tokens.specs.Tokens.{part}
 use Rattle.words.specs.Spellings.{bytes}
 use Rattle.words.specs.Words.{same_word}
-use Rattle.numbers.specs.Integers.{integer}
-use Rattle.numbers.specs.Doubles.{double}
-use Rattle.numbers.specs.declared.Double.{Double}
 use Rattle.values.specs.declared.PushValue.{PushValue}
 use Rattle.values.specs.declared.PushValue.TheVariants as P
-use Rattle.values.specs.Values.{word_value, double_or_long, float_value, integer_or, integer_value, push_value, or_six, value_answer, integer_text}
+use Rattle.values.specs.Values.{word_value, push_value, or_six, value_answer}
 
 module _ (s : List ℕ) (t : Bool) (et : t ≡ same_word s (bytes "infinity")) where
   pub is_infinity : t ≡ true → accepted (P.Float (inf false)) ≡ or_six (word_value s)
@@ -43,15 +37,6 @@ module _ (s : List ℕ) (t : Bool) (et : t ≡ same_word s (bytes "infinity")) w
     pub other_word : u ≡ false → refused 6 0 ≡ or_six (word_value s)
     unfolding word_value
     other_word h = simp (← et, g, ← eu, h)
-
-module _ (s : List ℕ) (raw : Span) where
-  pub float_is : (x y : Option Double) → x ≡ double s → x ≡ y → or_six (double_or_long y raw) ≡ or_six (float_value s raw)
-  unfolding float_value
-  float_is x y e f = ap (λ (d : Option Double). or_six (double_or_long d raw)) (sym f ∙ e)
-
-  pub integer-is : (x y : Option ℤ) → x ≡ integer s → x ≡ y → or_six (integer_or y (float_value s raw)) ≡ or_six (integer_value s raw)
-  unfolding integer_value
-  integer-is x y e f = ap (λ (i : Option ℤ). or_six (integer_or i (float_value s raw))) (sym f ∙ e)
 
 module _ (text : List ℕ) (t : Token) where
   pub too_long : 65536 < length text → refused 1 0 ≡ value_answer text t
@@ -71,15 +56,6 @@ module _ (text : List ℕ) (t : Token) where
         → r ≡ or_six (push_value t.kind (part text t.raw) t.raw) → r ≡ value_answer text t
     unfolding value_answer
     inside f g r e = e ∙ simp (le-ltb 65536 (length text) h, le-leb t.raw.start t.raw.end f, le-leb t.raw.end (length text) g)
-
-  module _ (b : Bool) (eb : b ≡ is_kind t.kind K.Integer) where
-    pub no_text : b ≡ false → [] ≡ integer_text text t
-    unfolding integer_text
-    no_text h = simp (← eb, h)
-
-    pub its_text : b ≡ true → raw_text text t ≡ integer_text text t
-    unfolding integer_text
-    its_text h = simp (← eb, h)
 
 -- ---- the arm of the other kinds
 

@@ -74,6 +74,7 @@ fn float_value(s: &[u8], raw: Span) -> Result<PushValue, Refusal>
 }
 
 // An i32, else a number as `float_value` gives it.
+#[tactic(auto, unfolding(crate::specs::Values::integer_value))]
 fn integer_value(s: &[u8], raw: Span) -> Result<PushValue, Refusal>
     requires { length s.now ≤ 65536 }
     ensures { answer result ≡ or_six (integer_value s.now raw) }
@@ -111,7 +112,6 @@ pub fn value(text: &[u8], token: Token) -> Result<PushValue, Refusal>
     if 65536 < text.len() {
         return Err(Refusal::TooLong);
     }
-    let kind = token.kind;
     let raw = token.raw;
     let start = raw.start;
     let end = raw.end;
@@ -121,24 +121,21 @@ pub fn value(text: &[u8], token: Token) -> Result<PushValue, Refusal>
     if text.len() < end {
         return Err(Refusal::NoValue);
     }
-    kind_value(kind, &text[start..end], raw)
+    kind_value(token.kind, &text[start..end], raw)
 }
 
 fn is_integer(kind: TokenKind) -> bool
     ensures { result ≡ is_kind kind K.Integer }
 {
-    match kind {
-        TokenKind::Integer => true,
-        _ => false,
-    }
+    matches!(kind, TokenKind::Integer)
 }
 
 // What a whole number is parsed from: of an Integer token its raw text, of any other token nothing.
+#[tactic(auto, unfolding(crate::specs::Values::integer_text))]
 fn integer_text(text: &[u8], token: Token) -> &[u8]
     ensures { result.now ≡ integer_text text.now token }
 {
-    let kind = token.kind;
-    if !is_integer(kind) {
+    if !is_integer(token.kind) {
         return &text[..0];
     }
     tokens::raw_text(text, token)

@@ -1,5 +1,4 @@
 -- `values::kind_value` meets its contract, arm by arm. Assumes nothing.
-use borrow.Author.Rules.{rules}
 use mathlib.Core.Path.{sym, ap, ◌∙◌}
 use Rattle.values.specs.Values.{or_six, push_value}
 use Rattle.values.proofs.Values.{no_value}

@@ -1,5 +1,4 @@
 -- `values::value` meets its contract. Assumes nothing.
-use borrow.Author.Rules.{rules}
 use Rattle.values.proofs.Values as laws
 use Rattle.values.proofs.value.Goals as goal
 

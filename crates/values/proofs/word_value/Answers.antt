@@ -1,5 +1,4 @@
 -- `values::word_value` meets its contract. Assumes nothing.
-use borrow.Author.Rules.{rules}
 use mathlib.Core.Path.{ap, ◌∙◌}
 use Rattle.answers.specs.Answers.{accepted}
 use Rattle.words.specs.Spellings.{bytes}
