@@ -11,7 +11,7 @@ use Rattle.lexemes.specs.Events.{Part, body, try, catch, finally}
 use Rattle.movies.specs.Movie.{Value, ◌!◌, number_in, is_register}
 use Rattle.action_records.specs.Fields.{Field, UI8, UI16, bits, size, branch}
 use Rattle.action_records.specs.Operands.{text, parameters, one, catch_target, ◌in-bits◌}
-use Rattle.field_coding.specs.declared.Coded.{Coded}
+use Rattle.field_coding.specs.declared.Coder.{Coder}
 use Rattle.field_coding.specs.Coding.{Puts, Codes}
 use Rattle.field_coding.proofs.Putting.{also, coded}
 use Rattle.list_coding.specs.Flags.{flag_fields}
@@ -19,11 +19,11 @@ use Rattle.block_coding.specs.Shapes.{plain_fields, before_parameters}
 
 -- ---- what is 0 until all is laid out
 
-module _ {c r : Coded} {x y : List ℕ} (a : Codes (UI16 0 ∷ []) c x y r) where
-  pub no_size : (p : Part) → Codes (size p ∷ []) c x y r
+module _ {c r : Coder} (a : Codes (UI16 0 ∷ []) c r) where
+  pub no_size : (p : Part) → Codes (size p ∷ []) c r
   no_size p = record { puts = a.puts }
 
-  pub no_offset : (n : ℕ) → Codes (branch n ∷ []) c x y r
+  pub no_offset : (n : ℕ) → Codes (branch n ∷ []) c r
   no_offset n = record { puts = a.puts }
 
 -- ---- functions
@@ -55,22 +55,19 @@ target : (vs : List Value) → try_fields (is_register (vs ! 0)) (catch_target (
 target [] = refl
 target (v ∷ vs) = refl
 
-flagged : (b : Bool) {c d : Coded} {x y : List ℕ} → Puts (cond b 4 0 ∷ []) true c x y d → Codes (bits (0 in-bits 5 ∷ one b in-bits 1 ∷ 0 in-bits 1 ∷ 0 in-bits 1 ∷ []) ∷ []) c x y d
+flagged : (b : Bool) {c d : Coder} → Puts (cond b 4 0 ∷ []) true c d → Codes (bits (0 in-bits 5 ∷ one b in-bits 1 ∷ 0 in-bits 1 ∷ 0 in-bits 1 ∷ []) ∷ []) c d
 flagged true a = record { puts = a }
 flagged false a = record { puts = a }
 
-module _ (vs : List Value) (v : Value) (e : v ≡ vs ! 0) where
-  told : (b : Bool) → is_register v ≡ b → try_fields b (cond b (UI8 (number_in v)) (text v)) ≡ plain_fields S.Try vs
-  told b h =
-      ap (λ (t : Bool). try_fields t (cond t (UI8 (number_in v)) (text v))) (sym h)
-      ∙ ap (λ (u : Value). try_fields (is_register u) (catch_target u)) e
-      ∙ target vs
+module _ (vs : List Value) where
+  told : (b : Bool) → is_register (vs ! 0) ≡ b → try_fields b (cond b (UI8 (number_in (vs ! 0))) (text (vs ! 0))) ≡ plain_fields S.Try vs
+  told b h = ap (λ (t : Bool). try_fields t (cond t (UI8 (number_in (vs ! 0))) (text (vs ! 0)))) (sym h) ∙ target vs
 
-  module _ {c d g r : Coded} {x y z w : List ℕ} where
-    pub register_caught : is_register v ≡ true → Puts (4 ∷ []) true c x y d → Codes (size try ∷ size catch ∷ size finally ∷ []) d y z g
-        → Codes (UI8 (number_in v) ∷ []) g z w r → Codes (plain_fields S.Try vs) c x w r
+  module _ {c d g r : Coder} where
+    pub register_caught : is_register (vs ! 0) ≡ true → Puts (4 ∷ []) true c d → Codes (size try ∷ size catch ∷ size finally ∷ []) d g
+        → Codes (UI8 (number_in (vs ! 0)) ∷ []) g r → Codes (plain_fields S.Try vs) c r
     register_caught h a s b = coded (told true h) (also (flagged true a) (also s b))
 
-    pub name_caught : is_register v ≡ false → Puts (0 ∷ []) true c x y d → Codes (size try ∷ size catch ∷ size finally ∷ []) d y z g
-        → Codes (text v ∷ []) g z w r → Codes (plain_fields S.Try vs) c x w r
+    pub name_caught : is_register (vs ! 0) ≡ false → Puts (0 ∷ []) true c d → Codes (size try ∷ size catch ∷ size finally ∷ []) d g
+        → Codes (text (vs ! 0) ∷ []) g r → Codes (plain_fields S.Try vs) c r
     name_caught h a s b = coded (told false h) (also (flagged false a) (also s b))

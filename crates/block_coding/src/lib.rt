@@ -1,120 +1,72 @@
 // The fields of the actions that own blocks: DefineFunction, DefineFunction2 and Try. The sizes of their blocks are 0.
 #![tactic(auto)]
 
-ghost use Rattle.std.specs.Prelude.{◌≡◌, [], ◌∷◌, ◌-◌};
+ghost use Rattle.std.specs.Prelude.{[], ◌∷◌};
 ghost use Rattle.shapes.specs.declared.Shape.TheVariants as S;
-ghost use Rattle.classes.specs.Lexemes.{Sound};
 ghost use Rattle.lexemes.specs.Events.{try, catch, finally};
 ghost use Rattle.action_records.specs.Fields.{size};
 ghost use Rattle.field_coding.specs.Coding.{Codes, Room, Adds};
-ghost use Rattle.list_coding.specs.Operands.{Small, values_of};
+ghost use Rattle.list_coding.specs.Operands.{values};
 ghost use Rattle.block_coding.specs.Shapes.{plain_fields, before_parameters};
 
-use entries::Action;
-use field_coding::{Coded, put_8, put_16, put_byte};
-use list_coding::{number_at, put_flags, put_parameters, put_text_at, put_texts, token_at};
-use operand_coding::{is_register, number_of, put_text};
+use field_coding::Coder;
+use list_coding::{Operands, put_flags, put_parameters, put_texts};
+use operand_coding::is_register;
 
-// How many operands there are from `from` on.
-fn count_from(action: Action, from: usize) -> u64
-    ensures { result ≡ action.count - from }
+pub fn put_function(o: Operands, w: &mut Coder)
+    requires { Room 34359738368 w.old }
+    ensures { Codes (plain_fields S.Function (values o.entry)) w.old w.new }
 {
-    if action.count < from {
-        return 0;
-    }
-    (action.count - from) as u64
-}
-
-pub fn put_function(
-    text: &[u8],
-    s: &[u64],
-    operands: &[u64],
-    action: Action,
-    out: &mut [u8],
-    c: Coded,
-) -> Coded
-    requires sound { Sound text.now s.now }
-    requires small { Small action }
-    requires room { Room 34359738368 c }
-    ensures { Codes (plain_fields S.Function (values_of text.now s.now operands.now action)) c out.old out.new result }
-{
-    let d = put_text_at(text, s, operands, action, 0, out, c);
-    let d = put_16(out, d, count_from(action, 2));
-    let d = put_texts(text, s, operands, action, 2, out, d);
-    put_16(out, d, 0)
+    o.put_text_at(0, w);
+    w.put_16(o.action.count.saturating_sub(2) as u64);
+    put_texts(o, 2, w);
+    w.put_16(0);
 }
 
 // DefineFunction2 up to its parameters.
-fn put_before_parameters(
-    text: &[u8],
-    s: &[u64],
-    operands: &[u64],
-    action: Action,
-    out: &mut [u8],
-    c: Coded,
-) -> Coded
-    requires sound { Sound text.now s.now }
-    requires small { Small action }
-    requires room { Room 131079 c }
-    ensures codes { Codes (before_parameters (values_of text.now s.now operands.now action)) c out.old out.new result }
-    ensures adds { Adds 131079 c result }
+fn put_before_parameters(o: Operands, w: &mut Coder)
+    requires { Room 131079 w.old }
+    ensures codes { Codes (before_parameters (values o.entry)) w.old w.new }
+    ensures adds { Adds 131079 w.old w.new }
 {
-    let d = put_text_at(text, s, operands, action, 0, out, c);
-    let d = put_16(out, d, count_from(action, 12) / 2);
-    let d = put_8(out, d, number_at(text, s, operands, action, 2));
-    put_flags(text, s, operands, action, out, d)
+    o.put_text_at(0, w);
+    w.put_16(o.action.count.saturating_sub(12) as u64 / 2);
+    w.put_8(o.number_at(2));
+    put_flags(o, w);
 }
 
-pub fn put_function_2(
-    text: &[u8],
-    s: &[u64],
-    operands: &[u64],
-    action: Action,
-    out: &mut [u8],
-    c: Coded,
-) -> Coded
-    requires sound { Sound text.now s.now }
-    requires small { Small action }
-    requires room { Room 34359738368 c }
-    ensures { Codes (plain_fields S.Function2 (values_of text.now s.now operands.now action)) c out.old out.new result }
+pub fn put_function_2(o: Operands, w: &mut Coder)
+    requires { Room 34359738368 w.old }
+    ensures { Codes (plain_fields S.Function2 (values o.entry)) w.old w.new }
 {
-    let d = put_before_parameters(text, s, operands, action, out, c);
-    let d = put_parameters(text, s, operands, action, out, d);
-    put_16(out, d, 0)
+    put_before_parameters(o, w);
+    put_parameters(o, w);
+    w.put_16(0);
 }
 
 // The sizes of Try's three blocks.
-fn put_sizes(out: &mut [u8], c: Coded) -> Coded
-    requires { Room 6 c }
-    ensures { Codes (size try ∷ size catch ∷ size finally ∷ []) c out.old out.new result }
+fn put_sizes(w: &mut Coder)
+    requires { Room 6 w.old }
+    ensures { Codes (size try ∷ size catch ∷ size finally ∷ []) w.old w.new }
 {
-    let d = put_16(out, c, 0);
-    let d = put_16(out, d, 0);
-    put_16(out, d, 0)
+    w.put_16(0);
+    w.put_16(0);
+    w.put_16(0);
 }
 
 // A register's number, or the name of what is caught.
-pub fn put_try(
-    text: &[u8],
-    s: &[u64],
-    operands: &[u64],
-    action: Action,
-    out: &mut [u8],
-    c: Coded,
-) -> Coded
-    requires sound { Sound text.now s.now }
-    requires small { Small action }
-    requires room { Room 34359738368 c }
-    ensures { Codes (plain_fields S.Try (values_of text.now s.now operands.now action)) c out.old out.new result }
+pub fn put_try(o: Operands, w: &mut Coder)
+    requires { Room 34359738368 w.old }
+    ensures { Codes (plain_fields S.Try (values o.entry)) w.old w.new }
 {
-    let token = token_at(s, operands, action, 0);
-    let kind = token.kind;
+    let kind = o.token_at(0).kind;
     if is_register(kind) {
-        let d = put_byte(out, c, 4, true);
-        let d = put_sizes(out, d);
-        return put_8(out, d, number_of(text, token));
+        w.put_byte(4, true);
+        put_sizes(w);
+        w.put_8(o.number_at(0));
+        return;
     }
-    let d = put_byte(out, c, 0, true);
-    let d = put_sizes(out, d);
-    put_text(text, token, out, d)
+    w.put_byte(0, true);
+    put_sizes(w);
+    o.put_text_at(0, w);
 }

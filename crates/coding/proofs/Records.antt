@@ -20,7 +20,8 @@ use Rattle.action_records.specs.Codes.{listed}
 use Rattle.action_records.specs.Fields.{Field, UI16, low_first, all_bytes, all, is16, holds}
 use Rattle.action_records.specs.Bytes.{with_length, blank}
 use Rattle.action_records.proofs.Listed.{short-nothing}
-use Rattle.field_coding.specs.declared.Coded.{Coded}
+use Rattle.std.specs.Borrow.{MutBor}
+use Rattle.field_coding.specs.declared.Coder.{Coder}
 use Rattle.field_coding.specs.Coding.{Puts, Codes}
 use Rattle.field_coding.proofs.Putting.{then, first_true}
 use Rattle.block_coding.specs.Shapes.{shape_fields}
@@ -54,16 +55,17 @@ overwrite x u c a b p q =
 
 -- ---- the record
 
-abbrev start : Coded
-start = record { end = 0; holds = true }
+abbrev start : MutBor (List ℕ) → Coder
+start x = record { out = x; end = 0; holds = true }
 
-pub record Whole (y : Style) (n : ActionName) (os : List Lexeme) (x z : List ℕ) (r : Coded) : Type 0 where
-  pub end : r.end ≡ length (head_of y n os)
-  pub holds : r.holds ≡ head_holds y n os
-  pub bytes : r.holds ≡ true → z ≡ sets x 0 (head_of y n os)
+pub record Whole (y : Style) (n : ActionName) (os : List Lexeme) (x z : MutBor (List ℕ)) (end : ℕ) (holds : Bool) : Type 0 where
+  pub end_value : end ≡ length (head_of y n os)
+  pub holds_value : holds ≡ head_holds y n os
+  pub bytes : holds ≡ true → z.now ≡ sets x.now 0 (head_of y n os)
+  pub same : z.ghost_name ≡ x.ghost_name
 
-module _ (y : Style) (n : ActionName) (os : List Lexeme) {code : ℕ} (e : code ≡ (listed n).code) {x z : List ℕ} {c : Coded} (a : Puts (code ∷ []) true start x z c) where
-  pub short : code < 128 → Whole y n os x z c
+module _ (y : Style) (n : ActionName) (os : List Lexeme) {code : ℕ} (e : code ≡ (listed n).code) {x : MutBor (List ℕ)} {c : Coder} (a : Puts (code ∷ []) true (start x) c) where
+  pub short : code < 128 → Whole y n os x c.out c.end c.holds
   unfolding head_of head_holds
   short h =
       let g = sym (ap (λ (k : ℕ). leb 0x80 k) (sym e) ∙ lt-leb 128 code h) in
@@ -74,23 +76,24 @@ module _ (y : Style) (n : ActionName) (os : List Lexeme) {code : ℕ} (e : code 
       ∙ ap (λ (t : Bool). cond t ((listed n).code ∷ low_first 2 0 ++ []) ((listed n).code ∷ [])) g
       ∙ ap (λ (l : List Field). with_length (listed n).code (all_bytes blank l)) (sym fs) in
       record {
-        end = a.end ∙ ap length bs;
-        holds = a.holds ∙ ap (λ (l : List Field). all holds l && is16 (length (all_bytes blank l))) (sym fs);
-        bytes = λ t. a.bytes t ∙ ap (sets x 0) bs;
+        end_value = a.end ∙ ap length bs;
+        holds_value = a.holds ∙ ap (λ (l : List Field). all holds l && is16 (length (all_bytes blank l))) (sym fs);
+        bytes = λ t. a.bytes t ∙ ap (sets x.now 0) bs;
+        same = a.same;
       }
 
-  module _ {d g r : Coded} {v w u : List ℕ} (b : Codes (UI16 0 ∷ []) c z v d) (f : Codes (head_fields y n os) d v w g)
-      (l : Codes (UI16 (g.end - 3) ∷ []) (record { end = 1; holds = g.holds }) w u r) where
+  module _ {d g r : Coder} (b : Codes (UI16 0 ∷ []) c d) (f : Codes (head_fields y n os) d g)
+      (l : Codes (UI16 (g.end - 3) ∷ []) (record { out = g.out; end = 1; holds = g.holds }) r) where
     abbrev field_bytes : List ℕ
     field_bytes = all_bytes blank (head_fields y n os)
 
-    stored : Puts (code ∷ 0 ∷ 0 ∷ field_bytes) (all holds (head_fields y n os)) start x w g
+    stored : Puts (code ∷ 0 ∷ 0 ∷ field_bytes) (all holds (head_fields y n os)) (start x) g
     stored = then a (then b.puts f.puts)
 
     counted : g.end - 3 ≡ length field_bytes
     counted = omega (arith, stored.end)
 
-    pub long : 128 ≤ code → Whole y n os x u (record { end = g.end; holds = r.holds })
+    pub long : 128 ≤ code → Whole y n os x r.out g.end r.holds
     unfolding head_of head_holds
     long h =
         let t : leb 0x80 code ≡ true = le-leb 128 code h in
@@ -98,8 +101,8 @@ module _ (y : Style) (n : ActionName) (os : List Lexeme) {code : ℕ} (e : code 
         ap (λ (p : Bool). cond p (code ∷ low_first 2 (length field_bytes) ++ field_bytes) (code ∷ field_bytes)) (sym t) ∙ ap (λ (k : ℕ). with_length k field_bytes) e in
         let z : g.end ≡ length (code ∷ (low_first 2 (length field_bytes) ++ field_bytes)) = omega (arith, stored.end) in
         record {
-          end = z ∙ ap length bs;
-          holds =
+          end_value = z ∙ ap length bs;
+          holds_value =
               l.puts.holds
               ∙ ap (λ (p : Bool). g.holds && p) (and-true (is16 (g.end - 3)))
               ∙ ap (λ (k : ℕ). g.holds && is16 k) counted
@@ -107,7 +110,8 @@ module _ (y : Style) (n : ActionName) (os : List Lexeme) {code : ℕ} (e : code 
           bytes = λ q.
               l.puts.bytes q
               ∙ ap (λ (m : List ℕ). sets m 1 (low_first 2 (g.end - 3))) (stored.bytes (first_true g.holds _ (sym l.puts.holds ∙ q)))
-              ∙ ap (λ (k : ℕ). sets (sets x 0 (code ∷ 0 ∷ 0 ∷ field_bytes)) 1 (low_first 2 k)) counted
-              ∙ overwrite x field_bytes code 0 0 _ _
-              ∙ ap (sets x 0) bs;
+              ∙ ap (λ (k : ℕ). sets (sets x.now 0 (code ∷ 0 ∷ 0 ∷ field_bytes)) 1 (low_first 2 k)) counted
+              ∙ overwrite x.now field_bytes code 0 0 _ _
+              ∙ ap (sets x.now 0) bs;
+          same = l.puts.same ∙ stored.same;
         }

@@ -10,7 +10,11 @@ use Rattle.action_records.specs.Codes.{listed}
 use Rattle.action_records.specs.Fields.{Field, all_bytes, all, is16, holds}
 use Rattle.action_records.specs.Operands.{fields}
 use Rattle.action_records.specs.Bytes.{with_length, blank}
+use Rattle.list_coding.specs.declared.operands.Operands.{Operands}
 pub use Rattle.list_coding.specs.Operands.{operand_at, operands_at}
+
+abbrev pub operands_of : Operands → List Lexeme
+operands_of o = operands_at o.text.now o.tokens.now o.operands.now o.action.first o.action.count
 
 abbrev pub head_fields : Style → ActionName → List Lexeme → List Field
 head_fields y n os = fields y (shape_of n) (normal (shape_of n) false (map meaning os)) (λ (p : Part). false)

@@ -4,12 +4,10 @@
 mod field;
 mod string;
 
-pub use field::{both, put_8, put_16, put_32, put_bits, put_byte};
-pub use string::put_string;
-
-// How far the bytes go, and whether every field so far holds its value.
-#[derive(Clone, Copy)]
-pub struct Coded {
+// The output, how far its bytes go, and whether every field so far holds its value.
+#[derive(Drop)]
+pub struct Coder<'a> {
+    pub out: &'a mut [u8],
     pub end: usize,
     pub holds: bool,
 }

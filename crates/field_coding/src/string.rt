@@ -5,95 +5,90 @@ ghost use Rattle.action_records.specs.Fields.{STRING};
 ghost use Rattle.field_coding.specs.Coding.{Spells, Codes, Room, Adds};
 ghost use Rattle.field_coding.specs.Escapes.{protects_next, told, adds};
 
-use crate::Coded;
-use crate::field::put_byte;
-
-// A byte of a string.
-fn put_char(out: &mut [u8], c: Coded, b: u8) -> Coded
-    requires { Room 1 c }
-    ensures { Spells (b ∷ []) c out.old out.new result }
-{
-    put_byte(out, c, b, b != 0)
-}
+use crate::Coder;
 
 // Whether the byte behind b is behind a backslash that is no escape's second byte.
 fn protects(protected: bool, b: u8) -> bool
     ensures { result ≡ protects_next protected b }
 {
-    if protected {
-        return false;
-    }
-    b == b'\\'
+    !protected && b == b'\\'
 }
 
-// What a byte behind a backslash means; 0 where the backslash stays.
-fn told(b: u8) -> u8
+// What a byte behind a backslash means; none where the backslash stays.
+fn told(b: u8) -> Option<u8>
     ensures { result ≡ told b }
 {
     match b {
-        b'n' => b'\n',
-        b'r' => b'\r',
-        b't' => b'\t',
-        b'\\' => b'\\',
-        b'"' => b'"',
-        b'\'' => b'\'',
-        _ => 0,
+        b'n' => Some(b'\n'),
+        b'r' => Some(b'\r'),
+        b't' => Some(b'\t'),
+        b'\\' => Some(b'\\'),
+        b'"' => Some(b'"'),
+        b'\'' => Some(b'\''),
+        _ => None,
     }
 }
 
-fn put_escaped(out: &mut [u8], c: Coded, b: u8) -> Coded
-    requires { Room 2 c }
-    ensures { Spells (adds true b) c out.old out.new result }
-{
-    let m = told(b);
-    if m != 0 {
-        return put_char(out, c, m);
+impl<'a> Coder<'a> {
+    // A byte of a string.
+    fn put_char(&mut self, b: u8)
+        requires { Room 1 self.old }
+        ensures { Spells (b ∷ []) self.old self.new }
+    {
+        self.put_byte(b, b != 0);
     }
-    let d = put_char(out, c, b'\\');
-    put_char(out, d, b)
-}
 
-// What a byte of a raw text adds to the string.
-fn put_next(out: &mut [u8], c: Coded, protected: bool, b: u8) -> Coded
-    requires { Room 2 c }
-    ensures { Spells (adds protected b) c out.old out.new result }
-{
-    if protected {
-        return put_escaped(out, c, b);
+    fn put_escaped(&mut self, b: u8)
+        requires { Room 2 self.old }
+        ensures { Spells (adds true b) self.old self.new }
+    {
+        match told(b) {
+            Some(m) => self.put_char(m),
+            None => {
+                self.put_char(b'\\');
+                self.put_char(b);
+            }
+        }
     }
-    if b == b'\\' {
-        return c;
-    }
-    put_char(out, c, b)
-}
 
-fn put_decoded(w: &[u8], out: &mut [u8], c: Coded) -> Coded
-    requires { Room (2 * length w.now + 1) c }
-    ensures spells { Spells (decoded w.now) c out.old out.new result }
-    ensures adds { Adds (2 * length w.now + 1) c result }
-{
-    let mut d = c;
-    let mut protected = false;
-    let mut i = 0;
-    while i < w.len() {
-        let b = w[i];
-        d = put_next(out, d, protected, b);
-        protected = protects(protected, b);
-        i += 1;
+    // What a byte of a raw text adds to the string.
+    fn put_next(&mut self, protected: bool, b: u8)
+        requires { Room 2 self.old }
+        ensures { Spells (adds protected b) self.old self.new }
+    {
+        if protected {
+            self.put_escaped(b);
+            return;
+        }
+        if b == b'\\' {
+            return;
+        }
+        self.put_char(b);
     }
-    if protected {
-        return put_char(out, d, b'\\');
-    }
-    d
-}
 
-// The string of a raw text.
-pub fn put_string(w: &[u8], out: &mut [u8], c: Coded) -> Coded
-    requires w_len_bound { length w.now ≤ 65536 }
-    requires room { Room 131074 c }
-    ensures codes { Codes (STRING (decoded w.now) ∷ []) c out.old out.new result }
-    ensures adds { Adds 131074 c result }
-{
-    let d = put_decoded(w, out, c);
-    put_byte(out, d, 0, true)
+    fn put_decoded(&mut self, w: &[u8])
+        requires { Room (2 * length w.now + 1) self.old }
+        ensures spells { Spells (decoded w.now) self.old self.new }
+        ensures adds { Adds (2 * length w.now + 1) self.old self.new }
+    {
+        let mut protected = false;
+        for &b in w {
+            self.put_next(protected, b);
+            protected = protects(protected, b);
+        }
+        if protected {
+            self.put_char(b'\\');
+        }
+    }
+
+    // The string of a raw text.
+    pub fn put_string(&mut self, w: &[u8])
+        requires w_len_bound { length w.now ≤ 65536 }
+        requires room { Room 131074 self.old }
+        ensures codes { Codes (STRING (decoded w.now) ∷ []) self.old self.new }
+        ensures adds { Adds 131074 self.old self.new }
+    {
+        self.put_decoded(w);
+        self.put_byte(0, true);
+    }
 }

@@ -18,7 +18,8 @@ use Rattle.entries.specs.Entries.{operand_of}
 use Rattle.movies.specs.Movie.{null, ◌!◌}
 use Rattle.movies.specs.Meaning.{meaning}
 use Rattle.operand_coding.specs.Operands.{meaning_in, Held}
-use Rattle.list_coding.specs.Operands.{operand_at, operands_at, word_at, values_of}
+use Rattle.list_coding.specs.declared.operands.Operands.{Operands}
+use Rattle.list_coding.specs.Operands.{operand_at, operands_at, word_at, values_of, values}
 
 -- ---- the token of a word
 
@@ -88,3 +89,15 @@ module _ (text s operands : List ℕ) where
 
         pub means : meaning_in text t ≡ values_of text s operands a ! k
         means = ap (meaning_in text) e ∙ word_means
+
+-- ---- by the struct of the tables
+
+pub count_of : (o : Operands) → length (values o) ≡ o.action.count
+count_of o = count-is o.text.now o.tokens.now o.operands.now o.action
+
+module _ (o : Operands) (k : ℕ) {t : Token} (e : t ≡ token_of (word_at o.tokens.now o.operands.now o.action k)) where
+  pub held_at : Held o.text.now t
+  held_at = held o.text.now o.tokens.now o.operands.now o.sound o.action k e
+
+  pub means_at : meaning_in o.text.now t ≡ values o ! k
+  means_at = means o.text.now o.tokens.now o.operands.now o.sound o.action k e

@@ -1,16 +1,13 @@
 -- The operands of an action, by the tables of a text's reading.
-use Rattle.std.specs.Prelude.{cond, List, [], ◌∷◌, map, ℕ, zero, suc, ◌+◌, ◌<◌, ltb, get_or}
+use Rattle.std.specs.Prelude.{cond, List, [], ◌∷◌, map, ℕ, zero, suc, ◌+◌, ltb, get_or}
 use Rattle.lexemes.specs.Lexemes.{Lexeme}
 use Rattle.classes.specs.Lexemes.{lexeme_of}
 use Rattle.entries.specs.declared.Action.{Action}
 use Rattle.entries.specs.Entries.{operand_of}
 use Rattle.movies.specs.Movie.{Value}
 use Rattle.movies.specs.Meaning.{meaning}
-
--- as any decoded entry of the action table is
-pub record Small (a : Action) : Type 0 where
-  pub first : a.first < 131072
-  pub count : a.count < 131072
+use Rattle.list_coding.specs.declared.operands.Operands.{Operands}
+pub use Rattle.list_coding.specs.Tables.{Small}
 
 -- the token of operand entry i
 abbrev pub operand_at : List ℕ → List ℕ → List ℕ → ℕ → Lexeme
@@ -27,3 +24,7 @@ word_at s operands a k = cond (ltb k a.count) (get_or s (operand_of (get_or oper
 
 unfoldable pub values_of : List ℕ → List ℕ → List ℕ → Action → List Value
 values_of text s operands a = map meaning (operands_at text s operands a.first a.count)
+
+-- the values of the operands
+abbrev pub values : Operands → List Value
+values o = values_of o.text.now o.tokens.now o.operands.now o.action

@@ -13,7 +13,7 @@ ghost use Rattle.action_records.specs.Operands as R;
 ghost use Rattle.field_coding.specs.Coding.{Codes, Room, Adds};
 ghost use Rattle.operand_coding.specs.Operands.{meaning_in, Held};
 
-use field_coding::{Coded, put_8, put_16, put_32, put_byte, put_string};
+use field_coding::Coder;
 use tokens::{Token, TokenKind, raw_text};
 use values::PushValue;
 
@@ -77,17 +77,18 @@ pub fn is_register(kind: TokenKind) -> bool
 }
 
 // Of a token that is no string the empty one.
-pub fn put_text(text: &[u8], token: Token, out: &mut [u8], c: Coded) -> Coded
+pub fn put_text(text: &[u8], token: Token, w: &mut Coder)
     requires text_len_bound { length text.now ≤ 65536 }
-    requires room { Room 131074 c }
-    ensures codes { Codes (R.text (meaning_in text.now token) ∷ []) c out.old out.new result }
-    ensures adds { Adds 131074 c result }
+    requires room { Room 131074 w.old }
+    ensures codes { Codes (R.text (meaning_in text.now token) ∷ []) w.old w.new }
+    ensures adds { Adds 131074 w.old w.new }
 {
     let kind = token.kind;
     if is_string(kind) {
-        return put_string(raw_text(text, token), out, c);
+        w.put_string(raw_text(text, token));
+        return;
     }
-    put_byte(out, c, 0, true)
+    w.put_byte(0, true);
 }
 
 // ---- what Push pushes
@@ -99,106 +100,104 @@ fn bits_32(n: i32) -> u64
     (n as i64 + 4294967296) as u64 % 4294967296
 }
 
-fn put_number(out: &mut [u8], c: Coded, x: f64) -> Coded
-    requires { Room 9 c }
-    ensures { Codes (R.pushed_as (number x)) c out.old out.new result }
+fn put_number(x: f64, w: &mut Coder)
+    requires { Room 9 w.old }
+    ensures { Codes (R.pushed_as (number x)) w.old w.new }
 {
     let bits = values::bits_of(x);
-    let d = put_8(out, c, 6);
-    let d = put_32(out, d, bits / 4294967296);
-    put_32(out, d, bits % 4294967296)
+    w.put_8(6);
+    w.put_32(bits / 4294967296);
+    w.put_32(bits % 4294967296);
 }
 
 // A place in the constant pool takes one byte if it can.
-fn put_constant(out: &mut [u8], c: Coded, n: u16) -> Coded
-    requires { Room 3 c }
-    ensures codes { Codes (R.pushed_as (constant n)) c out.old out.new result }
-    ensures adds { Adds 3 c result }
+fn put_constant(n: u16, w: &mut Coder)
+    requires { Room 3 w.old }
+    ensures codes { Codes (R.pushed_as (constant n)) w.old w.new }
+    ensures adds { Adds 3 w.old w.new }
 {
     if n <= 255 {
-        let d = put_8(out, c, 8);
-        return put_8(out, d, n as u64);
+        w.put_8(8);
+        w.put_8(n as u64);
+        return;
     }
-    let d = put_8(out, c, 9);
-    put_16(out, d, n as u64)
+    w.put_8(9);
+    w.put_16(n as u64);
 }
 
 // A value of the type that takes one byte.
-fn put_typed(out: &mut [u8], c: Coded, kind: u64, n: u64) -> Coded
-    requires { Room 2 c }
-    ensures { Codes (UI8 kind ∷ UI8 n ∷ []) c out.old out.new result }
+fn put_typed(kind: u64, n: u64, w: &mut Coder)
+    requires { Room 2 w.old }
+    ensures { Codes (UI8 kind ∷ UI8 n ∷ []) w.old w.new }
 {
-    let d = put_8(out, c, kind);
-    put_8(out, d, n)
+    w.put_8(kind);
+    w.put_8(n);
 }
 
-fn put_integer(out: &mut [u8], c: Coded, n: i32) -> Coded
-    requires { Room 5 c }
-    ensures { Codes (R.pushed_as (integer n)) c out.old out.new result }
+fn put_integer(n: i32, w: &mut Coder)
+    requires { Room 5 w.old }
+    ensures { Codes (R.pushed_as (integer n)) w.old w.new }
 {
-    let d = put_8(out, c, 7);
-    put_32(out, d, bits_32(n))
+    w.put_8(7);
+    w.put_32(bits_32(n));
 }
 
-fn put_typed_string(w: &[u8], out: &mut [u8], c: Coded) -> Coded
-    requires w_len_bound { length w.now ≤ 65536 }
-    requires room { Room 131075 c }
-    ensures codes { Codes (R.pushed_as (string (decoded w.now))) c out.old out.new result }
-    ensures adds { Adds 131075 c result }
+fn put_typed_string(raw: &[u8], w: &mut Coder)
+    requires raw_len_bound { length raw.now ≤ 65536 }
+    requires room { Room 131075 w.old }
+    ensures codes { Codes (R.pushed_as (string (decoded raw.now))) w.old w.new }
+    ensures adds { Adds 131075 w.old w.new }
 {
-    let d = put_8(out, c, 0);
-    put_string(w, out, d)
+    w.put_8(0);
+    w.put_string(raw);
 }
 
-// A value and its type; a string's bytes are those of its raw text w.
-fn put_value(w: &[u8], v: PushValue, out: &mut [u8], c: Coded) -> Coded
-    requires w_len_bound { length w.now ≤ 65536 }
-    requires room { Room 131075 c }
-    ensures codes { Codes (R.pushed_as (meant (some v) w.now)) c out.old out.new result }
-    ensures adds { Adds 131075 c result }
+// A value and its type; a string's bytes are those of its raw text.
+fn put_value(raw: &[u8], v: PushValue, w: &mut Coder)
+    requires raw_len_bound { length raw.now ≤ 65536 }
+    requires room { Room 131075 w.old }
+    ensures codes { Codes (R.pushed_as (meant (some v) raw.now)) w.old w.new }
+    ensures adds { Adds 131075 w.old w.new }
 {
     match v {
-        PushValue::Null => put_8(out, c, 2),
-        PushValue::Undefined => put_8(out, c, 3),
-        PushValue::String(_) => put_typed_string(w, out, c),
-        PushValue::Integer(n) => put_integer(out, c, n),
-        PushValue::Float(x) => put_number(out, c, x),
-        PushValue::True => put_typed(out, c, 5, 1),
-        PushValue::False => put_typed(out, c, 5, 0),
-        PushValue::Register(n) => put_typed(out, c, 4, n as u64),
-        PushValue::Constant(n) => put_constant(out, c, n),
-        PushValue::Long(_) => Coded {
-            end: c.end,
-            holds: false,
-        },
+        PushValue::Null => w.put_8(2),
+        PushValue::Undefined => w.put_8(3),
+        PushValue::String(_) => put_typed_string(raw, w),
+        PushValue::Integer(n) => put_integer(n, w),
+        PushValue::Float(x) => put_number(x, w),
+        PushValue::True => put_typed(5, 1, w),
+        PushValue::False => put_typed(5, 0, w),
+        PushValue::Register(n) => put_typed(4, n as u64, w),
+        PushValue::Constant(n) => put_constant(n, w),
+        PushValue::Long(_) => w.holds = false,
     }
 }
 
 // A value by what its token is worth.
-fn put_worth(text: &[u8], token: Token, out: &mut [u8], c: Coded) -> Coded
+fn put_worth(text: &[u8], token: Token, w: &mut Coder)
     requires held { Held text.now token }
-    requires room { Room 131075 c }
-    ensures codes { Codes (R.pushed_as (meaning_in text.now token)) c out.old out.new result }
-    ensures adds { Adds 131075 c result }
+    requires room { Room 131075 w.old }
+    ensures codes { Codes (R.pushed_as (meaning_in text.now token)) w.old w.new }
+    ensures adds { Adds 131075 w.old w.new }
 {
     match values::value(text, token) {
-        Ok(v) => put_value(raw_text(text, token), v, out, c),
-        Err(_) => put_8(out, c, 2),
+        Ok(v) => put_value(raw_text(text, token), v, w),
+        Err(_) => w.put_8(2),
     }
 }
 
 // A value and its type. The kind tells all of a string, a register and a constant.
-pub fn put_pushed(text: &[u8], token: Token, out: &mut [u8], c: Coded) -> Coded
+pub fn put_pushed(text: &[u8], token: Token, w: &mut Coder)
     requires held { Held text.now token }
-    requires room { Room 131075 c }
-    ensures codes { Codes (R.pushed_as (meaning_in text.now token)) c out.old out.new result }
-    ensures adds { Adds 131075 c result }
+    requires room { Room 131075 w.old }
+    ensures codes { Codes (R.pushed_as (meaning_in text.now token)) w.old w.new }
+    ensures adds { Adds 131075 w.old w.new }
 {
     let kind = token.kind;
     match kind {
-        TokenKind::String(_) => put_typed_string(raw_text(text, token), out, c),
-        TokenKind::Register(n) => put_typed(out, c, 4, n as u64),
-        TokenKind::Constant(n) => put_constant(out, c, n),
-        _ => put_worth(text, token, out, c),
+        TokenKind::String(_) => put_typed_string(raw_text(text, token), w),
+        TokenKind::Register(n) => put_typed(4, n as u64, w),
+        TokenKind::Constant(n) => put_constant(n, w),
+        _ => put_worth(text, token, w),
     }
 }

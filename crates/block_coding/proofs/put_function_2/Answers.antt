@@ -1,11 +1,9 @@
 -- `block_coding::put_function_2` meets its contract. Assumes nothing.
 use Rattle.lexemes.specs.Events.{body}
 use Rattle.field_coding.proofs.Putting.{also, coded}
-use Rattle.list_coding.specs.Operands.{values_of}
+use Rattle.list_coding.specs.Operands.{values}
 use Rattle.block_coding.proofs.Forms.{no_size, function_2}
 use Rattle.block_coding.proofs.put_function_2.Goals as goal
 
 pub returns : goal.returns
-returns c =
-    let a = c.args in
-    coded (function_2 (values_of a.text.now a.s.now a.operands.now a.action)) (also c.put_before_parameters-d.ensures.codes (also c.put_parameters-d.ensures.codes (no_size c.put_16.ensures body)))
+returns c = coded (function_2 (values c.args.o)) (also c.put_before_parameters.ensures.codes (also c.put_parameters.ensures.codes (no_size c.put_16.ensures body)))

@@ -1,29 +1,27 @@
 -- `coding::put_record` meets its contract. Assumes nothing.
-use mathlib.Core.Path.{ap}
+use mathlib.Core.Path.{sym, ap, ◌∙◌}
 use native.Mathlib.Omega.{arith}
 use Rattle.field_coding.proofs.Putting.{coded}
-use Rattle.list_coding.specs.Operands.{values_of}
+use Rattle.list_coding.specs.Operands.{values, values_of}
 use Rattle.block_coding.specs.Shapes.{shape_fields}
-use Rattle.coding.specs.Heads.{operands_at}
+use Rattle.coding.specs.Heads.{operands_of}
 use Rattle.coding.proofs.Records.{short, long}
 use Rattle.coding.proofs.put_record.Goals as goal
 
+pub put_fields-requires : goal.put_fields-requires
+put_fields-requires c = omega (arith, c.put_byte.ensures.end, c.put_16.ensures.puts.end)
+
 pub returns-then-code-lt128 : goal.returns-then-code-lt128
 returns-then-code-lt128 c =
-    let a = c.args in
-    let w = short a.style a.action.name (operands_at a.text.now a.s.now a.operands.now a.action.first a.action.count) c.code_of-code.ensures c.put_byte-c.ensures c.if-code-lt128.true in
-    record { end_value = w.end; holds_value = w.holds; out_after = w.bytes }
-
-pub put_fields-d-requires : goal.put_fields-d-requires
-put_fields-d-requires c =
-    let p = c.requires in
-    record { sound = p.sound; small = p.small; room = omega (arith, c.put_byte-c.ensures.end, c.put_16-c.ensures.puts.end) }
+    let o = c.args.o in
+    let w = short c.args.style o.action.name (operands_of o) c.code_of-code.ensures c.put_byte.ensures c.if-code-lt128.true in
+    record { end_value = w.end_value; holds_value = w.holds_value; out_after = λ e. c.out-1.given.1.1 (sym w.same) ∙ w.bytes e }
 
 pub returns : goal.returns
 unfolding values_of
 returns c =
-    let a = c.args in
-    let y = a.style in
-    let f = coded (ap (λ h. shape_fields y h (values_of a.text.now a.s.now a.operands.now a.action)) c.shape_of-shape.ensures) c.put_fields-d.ensures in
-    let w = long y a.action.name (operands_at a.text.now a.s.now a.operands.now a.action.first a.action.count) c.code_of-code.ensures c.put_byte-c.ensures c.put_16-c.ensures f c.put_16-e.ensures c.if-code-lt128.false in
-    record { end_value = w.end; holds_value = w.holds; out_after = w.bytes }
+    let o = c.args.o in
+    let y = c.args.style in
+    let f = coded (ap (λ h. shape_fields y h (values o)) c.shape_of.ensures) c.put_fields.ensures in
+    let w = long y o.action.name (operands_of o) c.code_of-code.ensures c.put_byte.ensures c.put_16.ensures f c.put_16-2.ensures c.if-code-lt128.false in
+    record { end_value = w.end_value; holds_value = w.holds_value; out_after = λ e. c.out-2-1.given.1.1 (sym w.same) ∙ w.bytes e }

@@ -1,18 +1,18 @@
 -- `list_coding::put_flags` meets its contract. Assumes nothing.
-use native.Mathlib.Omega.{arith}
-use Rattle.list_coding.specs.Operands.{values_of}
-use Rattle.list_coding.proofs.Bits.{eight_small, flag_small, nine}
+use mathlib.Core.Path.{◌≡◌, sym, ap, ◌∙◌}
+use mathlib.Core.Bool.{Bool, ◌&&◌}
+use Rattle.list_coding.specs.Operands.{values}
+use Rattle.list_coding.proofs.Bits.{nine}
 use Rattle.list_coding.proofs.put_flags.Goals as goal
-
-pub put_bits-d-requires : goal.put_bits-d-requires
-put_bits-d-requires c =
-    let a = c.args in
-    record { room = omega (arith, c.requires.room); n_bound = eight_small (values_of a.text.now a.s.now a.operands.now a.action) _ _ c.four_flags-high.ensures.flagged c.four_flags-low.ensures.flagged c.both.ensures }
-
-pub put_bits-requires : goal.put_bits-requires
-put_bits-requires c = record { room = omega (arith, c.requires.room, c.put_bits-d.ensures.end); n_bound = flag_small c.number_at-last.result }
+use Rattle.list_coding.proofs.put_flags.Goals.{then-high, else-high}
 
 pub returns : goal.returns
 returns c =
-    let a = c.args in
-    nine (values_of a.text.now a.s.now a.operands.now a.action) _ _ c.four_flags-high.ensures.flagged c.four_flags-low.ensures.flagged c.both.ensures c.number_at-last.ensures.value c.put_bits-d.ensures c.put_bits.ensures
+    let high = c.four_flags-high in
+    let low = c.four_flags-low in
+    let holds : c.if-high.put_bits ≡ (high.result.holds && low.result.holds) =
+    elim c.if-high.branch [
+      | then-high w ↦ w.put_bits-is ∙ ap (λ (b : Bool). b && low.result.holds) (sym w.if-high.true)
+      | else-high w ↦ w.put_bits-is ∙ w.if-high.false ∙ ap (λ (b : Bool). b && low.result.holds) (sym w.if-high.false)
+    ] in
+    nine (values c.args.o) _ _ high.ensures.flagged low.ensures.flagged holds c.number_at-last.ensures.value c.put_bits.ensures c.put_bits-2.ensures

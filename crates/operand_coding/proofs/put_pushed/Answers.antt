@@ -1,36 +1,27 @@
 -- `operand_coding::put_pushed` meets its contract, arm by arm. Assumes nothing.
-use mathlib.Core.Path.{sym, ap, subst, ◌∙◌}
-use Prim.Native.Nat.{◌≤◌}
-use native.Mathlib.Omega.{arith}
-use lib.ListN.{length}
+use mathlib.Core.Path.{ap, ◌∙◌}
 use Rattle.values.specs.Values.{push_value}
 use Rattle.movies.specs.Movie.{string}
 use Rattle.movies.specs.Strings.{decoded}
 use Rattle.action_records.specs.Operands.{pushed_as}
 use Rattle.field_coding.proofs.Putting.{coded}
-use Rattle.operand_coding.proofs.Worth.{raw-short, kind-told}
+use Rattle.operand_coding.proofs.Worth.{kind-told}
 use Rattle.operand_coding.proofs.put_pushed.Goals as goal
 
-pub put_typed_string-requires : goal.put_typed_string-requires
-put_typed_string-requires c =
-    let p = c in
-    let a = p.args in
-    record { w_len_bound = subst (λ l. length l ≤ 65536) (sym c.raw_text.ensures.result_value) (raw-short a.text.now a.token p.requires.held.bytes); room = p.requires.room }
-
-pub returns-in-String : goal.returns-in-String
+pub returns-in-String-clause-codes : goal.returns-in-String-clause-codes
 unfolding push_value
-returns-in-String c =
+returns-in-String-clause-codes c =
     let a = c.args in
-    record { codes = coded (ap (λ w. pushed_as (string (decoded w))) c.raw_text.ensures.result_value ∙ kind-told a.text.now a.token c.in-String.is) c.put_typed_string.ensures.codes; adds = c.put_typed_string.ensures.adds }
+    coded (ap (λ w. pushed_as (string (decoded w))) c.raw_text.ensures.result_value ∙ kind-told a.text.now a.token c.in-String.is) c.put_typed_string.ensures.codes
 
-pub returns-in-Register : goal.returns-in-Register
+pub returns-in-Register-clause-codes : goal.returns-in-Register-clause-codes
 unfolding push_value
-returns-in-Register c =
+returns-in-Register-clause-codes c =
     let a = c.args in
-    record { codes = coded (kind-told a.text.now a.token c.in-Register.is) c.put_typed.ensures; adds = omega (arith, c.put_typed.ensures.puts.end) }
+    coded (kind-told a.text.now a.token c.in-Register.is) c.put_typed.ensures
 
-pub returns-in-Constant : goal.returns-in-Constant
+pub returns-in-Constant-clause-codes : goal.returns-in-Constant-clause-codes
 unfolding push_value
-returns-in-Constant c =
+returns-in-Constant-clause-codes c =
     let a = c.args in
-    record { codes = coded (kind-told a.text.now a.token c.in-Constant.is) c.put_constant.ensures.codes; adds = omega (arith, c.put_constant.ensures.adds) }
+    coded (kind-told a.text.now a.token c.in-Constant.is) c.put_constant.ensures.codes

@@ -1,11 +1,13 @@
 -- `shape_coding::put_pool` meets its contract. Assumes nothing.
+use mathlib.Core.Path.{sym, ap}
+use mathlib.Core.List.{◌∷◌, map}
+use Prim.Native.Nat.{ℕ}
+use Rattle.action_records.specs.Fields.{UI16}
+use Rattle.action_records.specs.Operands.{text}
 use Rattle.field_coding.proofs.Putting.{also, coded}
-use Rattle.list_coding.specs.Operands.{values_of}
-use Rattle.list_coding.proofs.There.{count-is}
-use Rattle.shape_coding.proofs.Forms.{pool}
+use Rattle.list_coding.specs.Operands.{values}
+use Rattle.list_coding.proofs.There.{count_of}
 use Rattle.shape_coding.proofs.put_pool.Goals as goal
 
 pub returns : goal.returns
-returns c =
-    let a = c.args in
-    coded (pool (values_of a.text.now a.s.now a.operands.now a.action) a.action.count (count-is a.text.now a.s.now a.operands.now a.action)) (also c.put_16-d.ensures c.put_texts.ensures.codes)
+returns c = coded (ap (λ (n : ℕ). UI16 n ∷ map text (values c.args.o)) (sym (count_of c.args.o))) (also c.put_16.ensures c.put_texts.ensures.codes)

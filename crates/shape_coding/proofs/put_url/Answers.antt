@@ -3,4 +3,4 @@ use Rattle.field_coding.proofs.Putting.{also}
 use Rattle.shape_coding.proofs.put_url.Goals as goal
 
 pub returns : goal.returns
-returns c = also c.put_text_at-d.ensures.codes c.put_text_at.ensures.codes
+returns c = also c.put_text_at.ensures.codes c.put_text_at-2.ensures.codes
