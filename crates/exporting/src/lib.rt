@@ -7,7 +7,7 @@ use action_records::Style;
 use answers::Refusal;
 use first_pass::first_pass;
 use level_trees::{Source, actions_of};
-use writer::write_level;
+use writer::{Plan, write_level};
 
 // The second pass of faults, into no output: sizes and offsets are known only when every record has its place. If they fit, and the
 // bytes do, they are written.
@@ -21,30 +21,14 @@ fn second_pass(
     requires { TreeGiven (tables_of source aims.now) style place.old }
     ensures { TreePassed (tables_of source.entry aims.now) style place.old out.old out.new result }
 {
-    let Source {
-        text,
-        tokens,
-        actions,
-        operands,
-        levels,
-        ..
-    } = source;
-    let n = actions_of(levels, 0);
-    let mut nothing = [0u8; 0];
-    let measured = write_level(
-        text,
-        tokens,
-        actions,
-        operands,
-        levels,
+    let n = actions_of(source.levels, 0);
+    let p = Plan {
+        source,
         aims,
         style,
-        n,
-        0,
-        1,
-        place,
-        &mut nothing,
-    );
+    };
+    let mut nothing = [0u8; 0];
+    let measured = write_level(p, n, 0, 1, place, &mut nothing);
     let late = measured.late;
     let size = measured.byte;
     if late < 1048576 {
@@ -53,9 +37,7 @@ fn second_pass(
     if out.len() < size {
         return Err(Refusal::OutputShort(size));
     }
-    write_level(
-        text, tokens, actions, operands, levels, aims, style, n, 0, 1, place, out,
-    );
+    write_level(p, n, 0, 1, place, out);
     Ok(size)
 }
 

@@ -39,14 +39,14 @@ near_back a b h = by (ltb (b - a) 32769) refl ∙ sym (ap is_signed16 (back a b 
 -- ---- a jump, and the jumps of a level one after another
 
 module _ (place : List ℕ) (n k : ℕ) where
-  offset-is : (p from at to : ℕ) → from ≡ byte_at place (k + 1) → at ≡ min (suc p - 1) n → to ≡ byte_at place at
+  offset-is : (p from at to : ℕ) → from ≡ byte_at place (k + 1) → at ≡ min n (suc p - 1) → to ≡ byte_at place at
       → sub_ℕ to from ≡ offset_at place n k p
   offset-is p from at to ef ea et =
       let e : at ≡ min p n = omega arith in
       ap (λ (i : ℕ). sub_ℕ i from) (et ∙ ap (byte_at place) e) ∙ ap (sub_ℕ (byte_at place (min p n))) (ef ∙ ap (byte_at place) (add-one k))
 
   -- what is computed of a jump's target, from bytes read at the places that were computed
-  pub jump-aimed : (aim from at to start number : ℕ) (out out' : List ℕ) → (aim ≡ 0 → ⊥) → from ≡ byte_at place (k + 1) → at ≡ min (aim - 1) n
+  pub jump-aimed : (aim from at to start number : ℕ) (out out' : List ℕ) → (aim ≡ 0 → ⊥) → from ≡ byte_at place (k + 1) → at ≡ min n (aim - 1)
       → to ≡ byte_at place at → number ≡ two's_complement 16 (sub_ℕ to from) → start ≡ byte_at place k
       → out' ≡ with16 (start + 3) number out → out' ≡ aimed place n k aim out
   jump-aimed zero from at to start number out out' some ef ea et en es eo = absurd (some refl)
@@ -55,7 +55,7 @@ module _ (place : List ℕ) (n k : ℕ) where
       ∙ ap (λ (i : ℕ). with16 (i + 3) number out) es
       ∙ ap (λ (i : ℕ). with16 (byte_at place k + 3) i out) (en ∙ ap (two's_complement 16) (offset-is p from at to ef ea et))
 
-  pub jump_far : (aim from at to a r : ℕ) (near : Bool) → (aim ≡ 0 → ⊥) → from ≡ byte_at place (k + 1) → at ≡ min (aim - 1) n
+  pub jump_far : (aim from at to a r : ℕ) (near : Bool) → (aim ≡ 0 → ⊥) → from ≡ byte_at place (k + 1) → at ≡ min n (aim - 1)
       → to ≡ byte_at place at → near ≡ is_signed16 (sub_ℕ to from) → a ≡ action_at place k → r ≡ unless near a → r ≡ far_at place n k aim
   jump_far zero from at to a r near some ef ea et en es er = absurd (some refl)
   jump_far (suc p) from at to a r near some ef ea et en es er =

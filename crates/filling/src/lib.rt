@@ -11,12 +11,6 @@ ghost use Rattle.filling.specs.Filling.{filled, unless, byte_at, action_at, aime
 
 use entries::Block;
 
-pub fn least(a: usize, b: usize) -> usize
-    ensures { result ≡ min a b }
-{
-    if a < b { a } else { b }
-}
-
 // An action that a field tells of unless it holds its number; 1,048,576 is none.
 pub fn unless_holds(holds: bool, a: usize) -> usize
     ensures { result ≡ unless holds a }
@@ -27,20 +21,14 @@ pub fn unless_holds(holds: bool, a: usize) -> usize
 fn word_at(table: &[u64], at: usize) -> u64
     ensures { result ≡ get_or table.now at 0 }
 {
-    if at < table.len() { table[at] } else { 0 }
+    table.get(at).copied().unwrap_or(0)
 }
 
-fn wide(b: u8) -> usize
-    ensures { (result ≡ b) × (result < 256) }
-{
-    b as usize
-}
-
-fn put_byte(out: &mut [u8], at: usize, n: usize)
-    ensures { out.new ≡ set out.old at (n % 256) }
+fn put_byte(out: &mut [u8], at: usize, b: u8)
+    ensures { out.new ≡ set out.old at b }
 {
     if at < out.len() {
-        out[at] = (n % 256) as u8;
+        out[at] = b;
     }
 }
 
@@ -48,19 +36,18 @@ fn put_16(out: &mut [u8], at: usize, n: usize)
     ensures { out.new ≡ sets out.old at (low_first 2 n) }
 {
     if at < out.len() {
-        put_byte(out, at, n);
-        put_byte(out, at + 1, n / 256);
+        let bytes = n.to_le_bytes();
+        put_byte(out, at, bytes[0]);
+        put_byte(out, at + 1, bytes[1]);
     }
 }
 
 // A flag of the Try at the output's front.
-fn add_flag(out: &mut [u8], flag: usize)
-    requires { flag < 256 }
+fn add_flag(out: &mut [u8], flag: u8)
     ensures { out.new ≡ with_flag flag out.old }
 {
     if 3 < out.len() {
-        let flags = wide(out[3]);
-        put_byte(out, 3, flags + flag);
+        out[3] = out[3].wrapping_add(flag);
     }
 }
 
@@ -141,7 +128,7 @@ fn aim_jump(place: &[u64], n: usize, k: usize, aim: usize, out: &mut [u8]) -> us
         return 1048576;
     }
     let from = byte_at(place, k + 1);
-    let to = byte_at(place, least(aim - 1, n));
+    let to = byte_at(place, n.min(aim - 1));
     let number = offset_16(from, to);
     put_16(out, byte_at(place, k) + 3, number);
     let near = is_near(from, to);
@@ -153,13 +140,10 @@ pub fn aim_jumps(aims: &[u64], place: &[u64], n: usize, out: &mut [u8]) -> usize
     ensures out_after { out.new ≡ aimed_to aims.now place.now n n out.old }
     ensures value { result ≡ far_to aims.now place.now n n }
 {
-    let mut far = 1048576;
-    let mut k = 0;
-    while k < n {
+    let mut far: usize = 1048576;
+    for k in 0..n {
         let aim = word_at(aims, action_at(place, k)) as usize;
-        let next = aim_jump(place, n, k, aim, out);
-        far = least(far, next);
-        k += 1;
+        far = far.min(aim_jump(place, n, k, aim, out));
     }
     far
 }

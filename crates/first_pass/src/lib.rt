@@ -18,6 +18,7 @@ use entries::{Action, action_in};
 use jumps::{Aim, aim_at};
 use labels::{Merging, index_labels};
 use level_trees::Source;
+use list_coding::Operands;
 use names::ActionName;
 use shapes::{Shape, shape_of};
 
@@ -47,14 +48,14 @@ fn is_codable(source: Source, action: Action, style: Style) -> bool
     requires small { Small action }
     ensures { result ≡ head_holds style action.name (operands_at source.entry.text.now source.entry.tokens.now source.entry.operands.now action.first action.count) }
 {
-    let Source {
-        text,
-        tokens,
-        operands,
-        ..
-    } = source;
+    let o = Operands {
+        text: source.text,
+        tokens: source.tokens,
+        operands: source.operands,
+        action,
+    };
     let mut nothing = [0u8; 0];
-    put_record(text, tokens, operands, action, style, &mut nothing).holds
+    put_record(o, style, &mut nothing).holds
 }
 
 // Whether an action is a jump that leads nowhere.

@@ -12,6 +12,7 @@ use Rattle.action_records.specs.Fields.{is16}
 use Rattle.coding.specs.Heads.{operands_at, head_of, head_holds}
 use Rattle.level_trees.specs.Held.{HoldsLevel, HoldsBlocks}
 use Rattle.writer.specs.declared.At.{At}
+use Rattle.writer.specs.declared.Plan.{Plan}
 use Rattle.filling.specs.Pieces.{Piece, Tree, size, size_in, with_blocks, bytes_from, bytes_in, late, big_in}
 use Rattle.filling.specs.Filling.{filled, unless}
 
@@ -28,6 +29,18 @@ abbrev pub tables : List ℕ → List ℕ → List ℕ → List ℕ → List ℕ
 tables text s actions operands levels aims =
     record { text = text; tokens = s; actions = actions; operands = operands; levels = levels; aims = aims }
 
+-- those of what is written
+abbrev pub tables_of : Plan → Tables
+tables_of p =
+    record {
+      text = p.source.text.now;
+      tokens = p.source.tokens.now;
+      actions = p.source.actions.now;
+      operands = p.source.operands.now;
+      levels = p.source.levels.now;
+      aims = p.aims.now;
+    }
+
 -- the record of action a, by its entry
 unfoldable pub head_at : (text s actions operands : List ℕ) → Style → ℕ → List ℕ
 head_at text s actions operands y a =
@@ -42,6 +55,9 @@ coded_at text s actions operands y a =
 
 abbrev pub head_in : Tables → Style → ℕ → List ℕ
 head_in T y a = head_at T.text T.tokens T.actions T.operands y a
+
+abbrev pub coded_in : Tables → Style → ℕ → Bool
+coded_in T y a = coded_at T.text T.tokens T.actions T.operands y a
 
 -- a record of r bytes has room for the size of each of its blocks
 abbrev pub Fits : Part → ℕ → Type 0

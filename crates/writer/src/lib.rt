@@ -8,13 +8,22 @@ ghost use Rattle.action_records.specs.Fields.{is16};
 ghost use Rattle.entries.specs.Entries.{level_in};
 ghost use Rattle.classes.specs.Lexemes.{Sound};
 ghost use Rattle.filling.specs.Filling.{filled, unless};
-ghost use Rattle.writer.specs.Writing.{tables, head_at, coded_at, LevelGiven, LevelWritten, ActionGiven, ActionWritten, BlockGiven, BlockWritten};
+ghost use Rattle.writer.specs.Writing.{tables_of, head_in, coded_in, LevelGiven, LevelWritten, ActionGiven, ActionWritten, BlockGiven, BlockWritten};
 
 use action_records::Style;
 use coding::put_record;
 use entries::{action_in, level_in};
-use filling::{aim_jumps, fill_block, least, mark, unless_holds};
-use level_trees::{actions_of, is_block_of};
+use filling::{aim_jumps, fill_block, mark, unless_holds};
+use level_trees::{Source, actions_of, is_block_of};
+use list_coding::Operands;
+
+// What is written: the tables of a reading, where each action jumps to, and the style.
+#[derive(Clone, Copy)]
+pub struct Plan<'a> {
+    pub source: Source<'a>,
+    pub aims: &'a [u64],
+    pub style: Style,
+}
 
 // The next action and level, how many bytes were written, and the lowest action with a size or an offset out of its field.
 #[derive(Clone, Copy)]
@@ -26,21 +35,19 @@ pub struct At {
 }
 
 // The record of action a with its sizes and its offset 0, at the output's front; its length.
-fn put_head(
-    text: &[u8],
-    s: &[u64],
-    actions: &[u64],
-    operands: &[u64],
-    style: Style,
-    a: usize,
-    out: &mut [u8],
-) -> usize
-    requires { Sound text.now s.now × (coded_at text.now s.now actions.now operands.now style a ≡ true) }
-    ensures out_after { out.new ≡ sets out.old 0 (head_at text.now s.now actions.now operands.now style a) }
-    ensures value { result ≡ length (head_at text.now s.now actions.now operands.now style a) }
+fn put_head(p: Plan, a: usize, out: &mut [u8]) -> usize
+    requires { Sound p.source.text.now p.source.tokens.now × (coded_in (tables_of p) p.style a ≡ true) }
+    ensures out_after { out.new ≡ sets out.old 0 (head_in (tables_of p.entry) p.entry.style a) }
+    ensures value { result ≡ length (head_in (tables_of p.entry) p.entry.style a) }
 {
-    let action = action_in(actions, a);
-    put_record(text, s, operands, action, style, out).end
+    let action = action_in(p.source.actions, a);
+    let o = Operands {
+        text: p.source.text,
+        tokens: p.source.tokens,
+        operands: p.source.operands,
+        action,
+    };
+    put_record(o, p.style, out).end
 }
 
 // The size of a level, in its action's record of r bytes at the output's front.
@@ -57,102 +64,60 @@ fn fill_size(levels: &[u64], level: usize, r: usize, size: usize, out: &mut [u8]
 fn with_body(late: usize, a: usize, size: usize, inside: usize) -> usize
     ensures { result ≡ min late (min (unless (is16 size) a) inside) }
 {
-    least(late, least(unless_holds(size < 65536, a), inside))
+    late.min(unless_holds(size < 65536, a).min(inside))
 }
 
 // The records of a level's n actions, the first of them a, its first body level m; `place` is room to work in.
 #[cycle(write_action_write_block_write_level)]
-pub fn write_level(
-    text: &[u8],
-    s: &[u64],
-    actions: &[u64],
-    operands: &[u64],
-    levels: &[u64],
-    aims: &[u64],
-    style: Style,
-    n: usize,
-    a: usize,
-    m: usize,
-    place: &mut [u64],
-    out: &mut [u8],
-) -> At
-    requires { LevelGiven (tables text.now s.now actions.now operands.now levels.now aims.now) style n a m place.old }
-    ensures { LevelWritten (tables text.now s.now actions.now operands.now levels.now aims.now) style n a m place.old out.old out.new result }
+pub fn write_level(p: Plan, n: usize, a: usize, m: usize, place: &mut [u64], out: &mut [u8]) -> At
+    requires { LevelGiven (tables_of p) p.style n a m place.old }
+    ensures { LevelWritten (tables_of p.entry) p.entry.style n a m place.old out.old out.new result }
 {
-    let mut action = a;
-    let mut level = m;
-    let mut byte = 0;
-    let mut late = 1048576;
-    let mut k = 0;
-    while k < n {
-        mark(place, k, byte, action);
-        let start = least(byte, out.len());
+    let mut at = At {
+        action: a,
+        level: m,
+        byte: 0,
+        late: 1048576,
+    };
+    for k in 0..n {
+        mark(place, k, at.byte, at.action);
+        let start = at.byte.min(out.len());
         let next = write_action(
-            text,
-            s,
-            actions,
-            operands,
-            levels,
-            aims,
-            style,
-            action,
-            level,
+            p,
+            at.action,
+            at.level,
             &mut place[n + 1..],
             &mut out[start..],
         );
-        action = next.action;
-        level = next.level;
-        byte += next.byte;
-        late = least(late, next.late);
-        k += 1;
+        at = At {
+            action: next.action,
+            level: next.level,
+            byte: at.byte + next.byte,
+            late: at.late.min(next.late),
+        };
     }
-    mark(place, n, byte, action);
-    let far = aim_jumps(aims, place, n, out);
+    mark(place, n, at.byte, at.action);
+    let far = aim_jumps(p.aims, place, n, out);
     At {
-        action,
-        level,
-        byte,
-        late: least(far, late),
+        action: at.action,
+        level: at.level,
+        byte: at.byte,
+        late: far.min(at.late),
     }
 }
 
 // The next level, a block of action a, behind what is written so far; its size goes into the record of r bytes.
 #[cycle(write_action_write_block_write_level)]
-fn write_block(
-    text: &[u8],
-    s: &[u64],
-    actions: &[u64],
-    operands: &[u64],
-    levels: &[u64],
-    aims: &[u64],
-    style: Style,
-    a: usize,
-    r: usize,
-    at: At,
-    place: &mut [u64],
-    out: &mut [u8],
-) -> At
-    requires { BlockGiven (tables text.now s.now actions.now operands.now levels.now aims.now) style a r at place.old }
-    ensures { BlockWritten (tables text.now s.now actions.now operands.now levels.now aims.now) style a r at place.old out.old out.new result }
+fn write_block(p: Plan, a: usize, r: usize, at: At, place: &mut [u64], out: &mut [u8]) -> At
+    requires { BlockGiven (tables_of p) p.style a r at place.old }
+    ensures { BlockWritten (tables_of p.entry) p.entry.style a r at place.old out.old out.new result }
 {
     let level = at.level;
     let byte = at.byte;
+    let levels = p.source.levels;
     let n = actions_of(levels, level);
-    let start = least(byte, out.len());
-    let body = write_level(
-        text,
-        s,
-        actions,
-        operands,
-        levels,
-        aims,
-        style,
-        n,
-        at.action,
-        level + 1,
-        place,
-        &mut out[start..],
-    );
+    let start = byte.min(out.len());
+    let body = write_level(p, n, at.action, level + 1, place, &mut out[start..]);
     let size = body.byte;
     fill_size(levels, level, r, size, out);
     At {
@@ -165,33 +130,19 @@ fn write_block(
 
 // The record of action a, and its bodies in the part behind it.
 #[cycle(write_action_write_block_write_level)]
-fn write_action(
-    text: &[u8],
-    s: &[u64],
-    actions: &[u64],
-    operands: &[u64],
-    levels: &[u64],
-    aims: &[u64],
-    style: Style,
-    a: usize,
-    m: usize,
-    place: &mut [u64],
-    out: &mut [u8],
-) -> At
-    requires { ActionGiven (tables text.now s.now actions.now operands.now levels.now aims.now) style a m place.old }
-    ensures { ActionWritten (tables text.now s.now actions.now operands.now levels.now aims.now) style a m place.old out.old out.new result }
+fn write_action(p: Plan, a: usize, m: usize, place: &mut [u64], out: &mut [u8]) -> At
+    requires { ActionGiven (tables_of p) p.style a m place.old }
+    ensures { ActionWritten (tables_of p.entry) p.entry.style a m place.old out.old out.new result }
 {
-    let r = put_head(text, s, actions, operands, style, a, out);
+    let r = put_head(p, a, out);
     let mut at = At {
         action: a + 1,
         level: m,
         byte: r,
         late: 1048576,
     };
-    while is_block_of(levels, at.level, a) {
-        at = write_block(
-            text, s, actions, operands, levels, aims, style, a, r, at, place, out,
-        );
+    while is_block_of(p.source.levels, at.level, a) {
+        at = write_block(p, a, r, at, place, out);
     }
     at
 }

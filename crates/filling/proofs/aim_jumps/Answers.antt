@@ -13,24 +13,22 @@ loop-k-preserved c =
     let l = c.loop-k in
     let its = c.action_at in
     let aim = c.word_at-aim in
-    let jump = c.aim_jump-next in (
-      omega (arith, c.loop-k-test.true),
-      (
-        next-aimed a.aims.now a.place.now a.n l.k its.result aim.result its.ensures aim.ensures a.out.now l.out jump.new.out
-            l.invariant.1.0 jump.ensures.out_after,
-        next_far a.aims.now a.place.now a.n l.k its.result aim.result its.ensures aim.ensures l.far jump.result c.least-far.result
-            l.invariant.1.1 jump.ensures.value c.least-far.ensures,
-      ),
+    let jump = c.aim_jump in (
+      next-aimed a.aims.now a.place.now a.n l.k its.result aim.result its.ensures aim.ensures a.out.now l.out jump.new.out
+          l.invariant.0 jump.ensures.out_after,
+      next_far a.aims.now a.place.now a.n l.k its.result aim.result its.ensures aim.ensures l.far jump.result c.min-far.result
+          l.invariant.1 jump.ensures.value c.min-far.ensures,
     )
 
 pub shape_of-out : goal.shape_of-out
 shape_of-out c =
     let a = c.args in
     let l = c.loop-k in
-    ap length l.invariant.1.0 ∙ length-aimed-to a.aims.now a.place.now a.n l.k a.out.now
+    ap length l.invariant.0 ∙ length-aimed-to a.aims.now a.place.now a.n l.k a.out.now
 
 pub returns : goal.returns
 returns c =
     let a = c.args in
     let l = c.loop-k in
-    let e : l.k ≡ a.n = omega (arith, c.loop-k-test.false, l.invariant.0) in record { out_after = l.invariant.1.0 ∙ ap (λ (i : ℕ). aimed_to a.aims.now a.place.now a.n i a.out.now) e; value = l.invariant.1.1 ∙ ap (far_to a.aims.now a.place.now a.n) e }
+    let e : l.k ≡ a.n = omega (arith, c.loop-k-test.false, l.auto.k-end) in
+    record { out_after = l.invariant.0 ∙ ap (λ (i : ℕ). aimed_to a.aims.now a.place.now a.n i a.out.now) e; value = l.invariant.1 ∙ ap (far_to a.aims.now a.place.now a.n) e }

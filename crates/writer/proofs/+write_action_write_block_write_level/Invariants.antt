@@ -1,7 +1,7 @@
 -- `writer::write_level`, `write_block` and `write_action` meet their contracts. The measure: levels that are left. Assumes nothing.
 use Prim.Native.Nat.{◌+◌, ◌*◌, ◌-◌}
 use Rattle.filling.specs.Pieces.{Tree}
-use Rattle.writer.specs.Writing.{tables, AskedLevel}
+use Rattle.writer.specs.Writing.{tables_of, AskedLevel}
 use Rattle.writer.proofs.Turns.{Progress}
 use Rattle.writer.proofs.Actions.{Going}
 use Rattle.writer.proofs.+write_action_write_block_write_level.Given as goal
@@ -16,20 +16,16 @@ abbrev pub decreases-write_level : goal.decreases-write_level
 decreases-write_level l = 3 * (1048576 - l.m) + 2
 
 -- ---- write_action
-abbrev pub invariant-write_action-loop-style : goal.invariant-write_action-loop-style
-invariant-write_action-loop-style l =
-    Going (tables l.text l.s l.actions l.operands l.levels l.aims) l.style l.a l.m l.initial.place l.initial.out l.r l.at l.place l.out
+abbrev pub invariant-write_action-loop-p : goal.invariant-write_action-loop-p
+invariant-write_action-loop-p l =
+    Going (tables_of l.p) l.p.style l.a l.m l.initial.place l.initial.out l.r l.at l.place l.out
 
-abbrev pub decreases-write_action-loop-style : goal.decreases-write_action-loop-style
-decreases-write_action-loop-style l =
+abbrev pub decreases-write_action-loop-p : goal.decreases-write_action-loop-p
+decreases-write_action-loop-p l =
     1048576 - l.at.level
 
 -- ---- write_level
 abbrev pub invariant-write_level-loop-k : goal.invariant-write_level-loop-k
 invariant-write_level-loop-k l =
-    (x : Tree) → AskedLevel (tables l.text l.s l.actions l.operands l.levels l.aims) l.style x l.n l.a l.m l.initial.place
-    → Progress x l.n l.a l.m l.initial.place l.initial.out l.action l.level l.byte l.late l.k l.place l.out
-
-abbrev pub decreases-write_level-loop-k : goal.decreases-write_level-loop-k
-decreases-write_level-loop-k l =
-    l.n - l.k
+    (x : Tree) → AskedLevel (tables_of l.p) l.p.style x l.n l.a l.m l.initial.place
+    → Progress x l.n l.a l.m l.initial.place l.initial.out l.at.action l.at.level l.at.byte l.at.late l.k l.place l.out
