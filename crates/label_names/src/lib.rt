@@ -12,17 +12,7 @@ use tokens::raw_text;
 pub fn same_bytes(a: &[u8], b: &[u8]) -> bool
     ensures { result ≡ same_name a.now b.now }
 {
-    if a.len() != b.len() {
-        return false;
-    }
-    let mut i = 0;
-    while i < a.len() {
-        if a[i] != b[i] {
-            return false;
-        }
-        i += 1;
-    }
-    true
+    a == b
 }
 
 // The name of the label w.
@@ -37,8 +27,5 @@ pub fn name_of<'a>(text: &'a [u8], s: &[u64], w: u64) -> &'a [u8]
 pub fn is_named(text: &[u8], s: &[u64], level: usize, name: &[u8], v: u64) -> bool
     ensures { result ≡ is_named text.now s.now level name.now v }
 {
-    if level != label_of(v).level {
-        return false;
-    }
-    same_bytes(name, name_of(text, s, v))
+    level == label_of(v).level && same_bytes(name, name_of(text, s, v))
 }
