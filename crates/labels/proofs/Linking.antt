@@ -48,17 +48,6 @@ linked_long index b j = length-set (with_next index j (head_of index b)) b _ ∙
 
 -- ---- chains
 
-pub cleared : (index : List ℕ) (k : ℕ) → ((i : ℕ) → i < k → i < length index → get_or index i 0 ≡ 0)
-    → (i : ℕ) → i < k + 1 → i < length (set index k 0) → get_or (set index k 0) i 0 ≡ 0
-cleared index k z i h g = by (ℕ_discrete i k)
-  where
-    inside : i < length index
-    inside = omega (arith, length-set index k 0)
-
-    by : Dec (i ≡ k) → get_or (set index k 0) i 0 ≡ 0
-    by (yes e) = rw e (get_or-set_same index k 0 0 (omega (arith, inside)))
-    by (no d) = get_or-set_other index k i 0 0 d ∙ z i (omega arith) inside
-
 pub no_chains : (index : List ℕ) → ((k : ℕ) → k < length index → get_or index k 0 ≡ 0) → Chains [] index
 no_chains index z =
     record {

@@ -11,7 +11,8 @@ use label_names::{is_named, name_of};
 
 const FIRST_SEED: u32 = 1540483477;
 
-// Where a label stands, its bucket, and how many steps the walk took.
+// Where a label stands, its bucket, and how many steps the walk took. A label not found has the place behind the last, where it is put:
+// an Option would drop that place, and each caller count it anew.
 #[derive(Clone, Copy)]
 struct Found {
     place: usize,
@@ -39,12 +40,10 @@ fn hash_of(seed: u32, level: usize, name: &[u8]) -> u64
     requires { level < 4294967295 }
     ensures { result ≡ hash_of seed level name.now }
 {
-    let base = seed as u64;
+    let base = u64::from(seed);
     let mut h = level as u64 + 1;
-    let mut i = 0;
-    while i < name.len() {
-        h = (h * base + name[i] as u64) % 4294967296;
-        i += 1;
+    for b in name {
+        h = (h * base + u64::from(*b)) % 4294967296;
     }
     h * base % 4294967296
 }
@@ -56,17 +55,6 @@ fn bucket(seed: u32, n: usize, level: usize, name: &[u8]) -> usize
 {
     let h = hash_of(seed, level, name);
     (h * n as u64 / 4294967296) as usize
-}
-
-// No chains.
-fn clear(index: &mut [u64])
-    ensures { Chains [] index.new }
-{
-    let mut k = 0;
-    while k < index.len() {
-        index[k] = 0;
-        k += 1;
-    }
 }
 
 // The label j before the others of its bucket b.
@@ -84,19 +72,17 @@ fn rebuild(text: &[u8], s: &[u64], seed: u32, out: &[u64], m: usize, index: &mut
     requires { (m ≤ length out.now) × ((m < length index.old) × (length index.old < 4294967296)) }
     ensures { ChainsOf text.now s.now seed (take m out.now) index.new }
 {
-    clear(index);
-    let mut j = 0;
-    while j < m {
+    index.fill(0);
+    for j in 0..m {
         let w = out[j];
         let b = bucket(seed, index.len(), label_of(w).level, name_of(text, s, w));
         link(index, b, j);
-        j += 1;
     }
 }
 
 // Any seed is right: only speed hangs on it. An odd one stays odd, so that no bits are lost.
 fn next_seed(seed: u32) -> u32 {
-    ((seed as u64 * 1664525 + 1013904222) % 4294967296) as u32
+    ((u64::from(seed) * 1664525 + 1013904222) % 4294967296) as u32
 }
 
 // Once walks have taken too many steps, the index anew with another seed: names made to meet in one bucket cost little more.
@@ -168,16 +154,6 @@ fn move_label(w: u64, v: u64) -> u64
     label_word(label)
 }
 
-// a - b, but not below 0.
-fn less(a: usize, b: usize) -> usize
-    ensures { result ≡ a - b }
-{
-    if a < b {
-        return 0;
-    }
-    a - b
-}
-
 // One label more.
 fn put_label(
     text: &[u8],
@@ -195,7 +171,7 @@ fn put_label(
     let seed = t.seed;
     let found = find_label(text, s, seed, out, m, index, w);
     let k = found.place;
-    let left = less(t.left, found.steps);
+    let left = t.left.saturating_sub(found.steps);
     if k < m {
         let v = out[k];
         out[k] = move_label(w, v);
@@ -228,17 +204,15 @@ pub fn merge_labels(
     ensures { Merged text.now s.now (take n words.now) out.old out.new result }
 {
     let chains = &mut index[..n];
-    clear(chains);
+    chains.fill(0);
     let mut t = Merging {
         labels: 0,
         seed: FIRST_SEED,
         left: n * 8,
     };
-    let mut i = 0;
-    while i < n {
+    for i in 0..n {
         t = spread(text, s, out, t, chains);
         t = put_label(text, s, words[i], t, out, chains);
-        i += 1;
     }
     t.labels
 }
@@ -279,7 +253,7 @@ pub fn look_up(
     let m = u.labels;
     let seed = u.seed;
     let found = find_label(text, s, seed, labels, m, index, w);
-    let left = less(u.left, found.steps);
+    let left = u.left.saturating_sub(found.steps);
     let merging = Merging {
         labels: m,
         seed,
