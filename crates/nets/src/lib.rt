@@ -22,7 +22,7 @@ pub fn first_is_empty(text: &[u8], s: &[u64], operands: &[u64], from: usize, to:
     let operand = operand_in(operands, from);
     let token = token_in(s, operand.token);
     let raw = raw_text(text, token);
-    raw.len() == 0
+    raw.is_empty()
 }
 
 // A height, moved by a delta.
@@ -30,7 +30,7 @@ fn raised(h: i64, by: i32) -> i64
     requires { SmallNet (N.Height h) }
     ensures { result ≡ h +ℤ by }
 {
-    h + by as i64
+    h + i64::from(by)
 }
 
 // The net behind action a, which has so many operands. Once undetermined, it stays with the first action that made it so.
@@ -42,8 +42,7 @@ pub fn next_net(net: Net, a: usize, name: ActionName, values: usize, empty: bool
     match net {
         Net::Undetermined(_) => net,
         Net::Height(h) => {
-            let d = delta(name, values, empty);
-            match d {
+            match delta(name, values, empty) {
                 Ok(by) => Net::Height(raised(h, by)),
                 Err(_) => Net::Undetermined(a),
             }

@@ -1,4 +1,5 @@
 -- `nets::first_is_empty` meets its contract. Assumes nothing.
+use mathlib.Core.Path.{◌∙◌}
 use Rattle.nets.proofs.Turns.{no_operand, first_empty}
 use Rattle.nets.proofs.first_is_empty.Goals as goal
 
@@ -8,4 +9,4 @@ returns-then-to-from c =
 
 pub returns : goal.returns
 returns c =
-    first_empty _ _ _ _ _ _ _ _ c.if-to-from.false c.operand_in-operand.ensures c.token_in-token.ensures c.raw_text-raw.ensures.result_value
+    c.is_empty.ensures ∙ first_empty _ _ _ _ _ _ _ _ c.if-to-from.false c.operand_in-operand.ensures c.token_in-token.ensures c.raw_text-raw.ensures.result_value

@@ -18,7 +18,7 @@ returns-in-Ok c =
     let height = to_z-of_z w64 _ fh in
     let moved = to_z-of_z w32 _ fd in
     let got = at-height a.a a.values a.name a.empty a.net p.0 p.1.0 p.1.1 _ c.in-Height.is
-    _ c.delta-d.ensures _ _ c.in-Ok.is (to_z-of_z w64 c.raised.result f ∙ c.raised.ensures ∙ (λ i. height i +ℤ moved i)) in
+    _ c.delta.ensures _ _ c.in-Ok.is (to_z-of_z w64 c.raised.result f ∙ c.raised.ensures ∙ (λ i. height i +ℤ moved i)) in
     record { value = got.0; net_fits = got.1 }
 
 pub returns-in-Err : goal.returns-in-Err
@@ -26,5 +26,5 @@ returns-in-Err c =
     let a = c.args in
     let p = c.requires in
     let got = at-undetermined a.a a.values a.name a.empty a.net p.0 p.1.0 p.1.1 _ c.in-Height.is
-    _ c.delta-d.ensures _ c.in-Err.is in
+    _ c.delta.ensures _ c.in-Err.is in
     record { value = got.0; net_fits = got.1 }
