@@ -16,6 +16,7 @@ pub enum Found {
     CutCharacter,
 }
 
+#[tactic(auto, unfolding(crate::specs::First::return_at))]
 fn return_at(s: &[u8]) -> Found
     ensures { result ≡ return_at s.now }
 {
@@ -25,6 +26,7 @@ fn return_at(s: &[u8]) -> Found
     Found::Token(TokenKind::Newline, 1)
 }
 
+#[tactic(auto, unfolding(crate::specs::First::word_at))]
 fn word_at(s: &[u8], names: &Names) -> Found
     requires { 0 < length s.now }
     ensures { result ≡ word_at s.now }
@@ -33,6 +35,7 @@ fn word_at(s: &[u8], names: &Names) -> Found
     Found::Token(keywords::word_kind(&s[..e], names), e)
 }
 
+#[tactic(auto, unfolding(crate::specs::First::number_at))]
 fn number_at(s: &[u8]) -> Found
     requires { 0 < length s.now }
     ensures { result ≡ number_at s.now }
@@ -45,6 +48,7 @@ fn number_at(s: &[u8]) -> Found
     Found::Token(TokenKind::Integer, e)
 }
 
+#[tactic(auto, unfolding(crate::specs::First::string_at))]
 fn string_at(s: &[u8]) -> Found
     requires { 0 < length s.now }
     ensures { result ≡ string_at s.now }

@@ -26,6 +26,7 @@ fn lex_all(text: &[u8], names: &Names, words: &mut [u64]) -> Result<usize, Refus
 {
     let mut at = 0;
     let mut n = 0;
+    // a token takes many bytes, so this is no `for`
     while at < text.len() {
         match token_at(text, at, names) {
             Found::Blank => {

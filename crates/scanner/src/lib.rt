@@ -23,7 +23,7 @@ pub fn is_digit(b: u8) -> bool
 fn is_word_byte(b: u8) -> bool
     ensures { result ≡ is_word_byte b }
 {
-    matches!(b, b'a'..=b'z' | b'A'..=b'Z' | b'0'..=b'9' | b'_' | b'$')
+    matches!(b, b'a'..=b'z') || matches!(b, b'A'..=b'Z') || is_digit(b) || matches!(b, b'_' | b'$')
 }
 
 // Where the run of bytes from an index on ends that pass a test.

@@ -39,8 +39,11 @@ fn char_len(s: &[u8]) -> usize
     requires { 0 < length s.now }
     ensures { result ≡ char_len s.now }
 {
+    // most characters are one byte, and a match asks for others first
+    if s[0] < 128 {
+        return 1;
+    }
     match s[0] {
-        0..=127 => 1,
         194..=223 => sized(in_range(s, 1, 128, 191), 2),
         224 => sized(three(s, 160, 191), 3),
         225..=236 => sized(three(s, 128, 191), 3),
@@ -61,7 +64,7 @@ fn four_ascii(s: &[u8], i: usize) -> bool
     s[i] < 128 && s[i + 1] < 128 && s[i + 2] < 128 && s[i + 3] < 128
 }
 
-// Valid bytes at the front, four at a time; most texts have no others.
+// Valid bytes at the front, four at a time; most texts have no others. `chunks_exact` tells no index, which would be counted beside it.
 fn ascii_front(text: &[u8]) -> usize
     ensures { ValidFront text.now result }
 {
@@ -80,6 +83,7 @@ pub fn valid_up_to(text: &[u8]) -> usize
     ensures { result ≡ valid_up_to text.now }
 {
     let mut at = ascii_front(text);
+    // a character takes up to four bytes, so this is no `for`
     while at < text.len() {
         let n = char_len(&text[at..]);
         if n == 0 {

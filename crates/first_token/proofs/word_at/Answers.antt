@@ -1,17 +1,9 @@
 -- `first_token::word_at` meets its contract. Assumes nothing.
-use borrow.Author.Rules.{rules}
 use native.Mathlib.Omega.{arith}
 use lib.ListN.{length-take}
 use Rattle.scanner.specs.Bytes.{is_word_byte}
 use Rattle.scanner.proofs.Runs.{run_fits}
-use Rattle.first_token.specs.First.{word_at}
 use Rattle.first_token.proofs.word_at.Goals as goal
 
 pub slice_bounds-word_kind-end : goal.slice_bounds-word_kind-end
-slice_bounds-word_kind-end c =
-    let f = c in
-    simp length-take (omega (arith, c.word_end-e.ensures, run_fits is_word_byte f.args.s.now 1 f.requires))
-
-pub returns : goal.returns
-unfolding word_at
-returns c = simp (← c.word_end-e.ensures, ← c.word_kind.ensures)
+slice_bounds-word_kind-end c = simp length-take (omega (arith, c.word_end-e.ensures, run_fits is_word_byte c.args.s.now 1 c.requires))
