@@ -30,14 +30,11 @@ pub fn count_log(log: &[u64]) -> Count
     let mut labels = 0;
     let mut operands = 0;
     let mut levels = 1;
-    let mut i = 0;
-    while i < log.len() {
-        let word = log[i];
-        actions += one_if(word, 0);
-        labels += one_if(word, 1);
-        operands += one_if(word, 2);
-        levels += one_if(word, 3);
-        i += 1;
+    for word in log {
+        actions += one_if(*word, 0);
+        labels += one_if(*word, 1);
+        operands += one_if(*word, 2);
+        levels += one_if(*word, 3);
     }
     Count {
         actions,

@@ -10,6 +10,13 @@ Holdable n = n < 1048576
 abbrev pub log_word : ℕ → ℕ → ℕ
 log_word k n = k * 1048576 + n
 
+abbrev pub word_of : Event → ℕ
+word_of (E.Action n) = log_word 0 n
+word_of (E.Label n) = log_word 1 n
+word_of (E.Operand n) = log_word 2 n
+word_of (E.Opened n) = log_word 3 n
+word_of E.Closed = log_word 4 0
+
 abbrev pub kind_of : ℕ → ℕ
 kind_of w = w / 1048576
 

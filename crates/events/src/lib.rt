@@ -1,8 +1,8 @@
 // The log of a reading: what was read, as events in the order of the text, one word each. This crate alone knows that word.
 #![tactic(auto)]
 
-ghost use Rattle.std.specs.Prelude.{◌≡◌, ◌≤◌};
-ghost use Rattle.events.specs.Log.{Holdable, log_word, kind_of, event_of, Holds};
+ghost use Rattle.std.specs.Prelude.{◌≡◌};
+ghost use Rattle.events.specs.Log.{word_of, kind_of, event_of, Holds};
 
 // An action with its number, a label and an operand with their tokens, a block that opens (body, try, catch or finally) and a
 // level that closes.
@@ -15,11 +15,17 @@ pub enum Event {
     Closed,
 }
 
-pub fn log_word(kind: u64, holds: u64) -> u64
-    requires { (kind ≤ 4) × Holdable holds }
-    ensures { result ≡ log_word kind holds }
+pub fn log_word(event: Event) -> u64
+    requires { Holds event }
+    ensures { result ≡ word_of event }
 {
-    kind * 1048576 + holds
+    match event {
+        Event::Action(number) => number,
+        Event::Label(token) => 1048576 + token,
+        Event::Operand(token) => 2 * 1048576 + token,
+        Event::Opened(part) => 3 * 1048576 + part,
+        Event::Closed => 4 * 1048576,
+    }
 }
 
 pub fn kind_of(word: u64) -> u64

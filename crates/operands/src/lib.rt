@@ -4,12 +4,12 @@
 
 ghost use Rattle.std.specs.Prelude.{◌≡◌, true, ◌≤◌, set, Ok};
 ghost use Rattle.classes.specs.Lexemes.{fits_at};
-ghost use Rattle.events.specs.Log.{Holdable, log_word};
+ghost use Rattle.events.specs.Log.{Holds, word_of};
 ghost use Rattle.operands.specs.Log.{passed, logged};
 ghost use Rattle.operands.specs.Contract.{Fine, OperandRead, CommaRead, NextRead, TwoRead, ThreeRead, RepeatRead, PairRead, PairsRead, NameRead, CountRead, NamesRead, FunctionRead, FlagsRead, FlagsPairsRead, RegistersRead, Function2Read, FrameRead, ValuesRead, ListRead, OperandsRead};
 
 use classes::{Class, count_at, fits_at, is_count, kind_at};
-use events::log_word;
+use events::{Event, log_word};
 use shapes::Shape;
 
 // The next token, and how many events the log holds.
@@ -26,24 +26,20 @@ pub enum Unread {
     Deep(usize),
 }
 
-// Places of kinds in `TokenKind`.
+// Places of kinds in `TokenKind`, as a token's word holds them: an enum would list its variants again, without what they carry.
 const COMMA: u64 = 9;
 
 const TRUE: u64 = 12;
 
-// The event of an operand.
-const GIVEN: u64 = 2;
-
 // ---- the log
 
 // Writes an event, if the log has that place.
-pub fn write_event(events: &mut [u64], n: usize, kind: u64, holds: u64)
-    requires kind_bound { kind ≤ 4 }
-    requires holdable { Holdable holds }
-    ensures { events.new ≡ set events.old n (log_word kind holds) }
+pub fn write_event(events: &mut [u64], n: usize, event: Event)
+    requires { Holds event }
+    ensures { events.new ≡ set events.old n (word_of event) }
 {
     if n < events.len() {
-        events[n] = log_word(kind, holds);
+        events[n] = log_word(event);
     }
 }
 
@@ -70,7 +66,7 @@ pub fn logged(c: At) -> At
     }
 }
 
-// ---- operands
+// ---- operands: the log is lent apart, since readers of a struct of all three would also have to say that it stays the same log
 
 // An operand that is known to fit.
 fn given(text: &[u8], s: &[u64], events: &mut [u64], c: At, m: Class) -> At
@@ -78,7 +74,7 @@ fn given(text: &[u8], s: &[u64], events: &mut [u64], c: At, m: Class) -> At
     requires at_value { fits_at m text.now s.now c.at ≡ true }
     ensures { OperandRead m text.now s.now events.old events.new c (Ok result) }
 {
-    write_event(events, c.events, GIVEN, c.at as u64);
+    write_event(events, c.events, Event::Operand(c.at as u64));
     logged(c)
 }
 
@@ -158,6 +154,7 @@ fn pair(text: &[u8], s: &[u64], events: &mut [u64], c: At) -> Result<At, Unread>
     next_operand(text, s, events, d, Class::String)
 }
 
+// `repeat` with another step: as a closure the step would need clauses longer than this loop.
 fn pairs(text: &[u8], s: &[u64], events: &mut [u64], c: At, n: u64) -> Result<At, Unread>
     requires { Fine text.now s.now c }
     ensures { PairsRead n text.now s.now events.old events.new c result }
@@ -186,7 +183,7 @@ fn count(text: &[u8], s: &[u64], events: &mut [u64], c: At) -> Result<At, Unread
     ensures { CountRead text.now s.now events.old events.new c result }
 {
     if is_count(text, s, c.at) {
-        write_event(events, c.events, GIVEN, c.at as u64);
+        write_event(events, c.events, Event::Operand(c.at as u64));
         Ok(logged(c))
     } else {
         Err(Unread::Bad(c.at))

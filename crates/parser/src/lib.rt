@@ -11,11 +11,12 @@ ghost use Rattle.parser.specs.Parsed.{Parsed};
 
 use actions::action_number;
 use classes::{Class, fits_at, kind_at};
+use events::Event;
 use operands::{At, Unread, logged, operands, passed, write_event};
 use shapes::{Shape, shape_of};
 use tokens::{TokenKind, token_of};
 
-// Places of kinds in `TokenKind`.
+// Places of kinds in `TokenKind`, as a token's word holds them: an enum would list its variants again, without what they carry.
 const NEWLINE: u64 = 0;
 
 const IDENTIFIER: u64 = 7;
@@ -29,17 +30,6 @@ const CLOSE_BRACE: u64 = 11;
 const CATCH: u64 = 16;
 
 const FINALLY: u64 = 17;
-
-// The kinds of events: an action, a label, an operand, a block that opens, a level that closes.
-const ACTED: u64 = 0;
-
-const NAMED: u64 = 1;
-
-const GIVEN: u64 = 2;
-
-const OPENED: u64 = 3;
-
-const CLOSED: u64 = 4;
 
 // What follows a block of a Try: no newline, or, behind all newlines, the place of another item or of a handler's word.
 #[derive(Clone, Copy)]
@@ -94,7 +84,7 @@ fn label(text: &[u8], s: &[u64], events: &mut [u64], c: At) -> Result<At, Unread
     requires at_value { kind_at s.now c.at ≡ 7 }
     ensures { LabelRead text.now s.now events.old events.new c result }
 {
-    write_event(events, c.events, NAMED, c.at as u64);
+    write_event(events, c.events, Event::Label(c.at as u64));
     colon(text, s, logged(c))
 }
 
@@ -169,7 +159,7 @@ fn give_target(events: &mut [u64], c: At, a: Option<usize>) -> At
     match a {
         None => c,
         Some(t) => {
-            write_event(events, c.events, GIVEN, t as u64);
+            write_event(events, c.events, Event::Operand(t as u64));
             At {
                 at: c.at,
                 events: c.events + 1,
@@ -208,7 +198,7 @@ fn actions(
     while p.at < s.len() {
         if kind_at(s, p.at) == CLOSE_BRACE {
             if inside {
-                write_event(events, p.events, CLOSED, 0);
+                write_event(events, p.events, Event::Closed);
                 return Ok(logged(p));
             }
             return Err(Unread::Bad(p.at));
@@ -251,7 +241,7 @@ fn action(text: &[u8], s: &[u64], events: &mut [u64], c: At, room: usize) -> Res
     let TokenKind::ActionName(name) = token_of(s[c.at]).kind else {
         return Err(Unread::Bad(c.at));
     };
-    write_event(events, c.events, ACTED, action_number(name) as u64);
+    write_event(events, c.events, Event::Action(action_number(name) as u64));
     let w = shape_of(name);
     let p = operands(text, s, events, logged(c), w)?;
     blocks(text, s, events, p, room, w)
@@ -319,7 +309,7 @@ fn block(
     if room == 0 {
         return Err(Unread::Deep(c.at));
     }
-    write_event(events, c.events, OPENED, block_number(b));
+    write_event(events, c.events, Event::Opened(block_number(b)));
     actions(text, s, events, logged(c), room - 1, true)
 }
 

@@ -12,8 +12,8 @@ use Rattle.parser.proofs.+parser.Goals as goal
 pub action-returns-in_default : goal.action-returns-in_default
 action-returns-in_default t c = action_not _ _ _ _ _ _ c.requires.fine c.requires.at_in_bounds c.requires.plain c.token_of.ensures c.in_default.not-ActionName
 
-pub action-write_event-requires-clause-holdable : goal.action-write_event-requires-clause-holdable
-action-write_event-requires-clause-holdable t c = search number_fits
+pub action-write_event-requires : goal.action-write_event-requires
+action-write_event-requires t c = search number_fits
 
 pub action-returns-in_err-p : goal.action-returns-in_err-p
 action-returns-in_err-p t c =
