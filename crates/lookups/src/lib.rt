@@ -25,15 +25,8 @@ pub fn part(text: &[u8], s: Span) -> &[u8]
 pub fn words_from(table: &[u64], first: usize, count: usize) -> &[u64]
     ensures { result.now ≡ take count (drop first table.now) }
 {
-    if table.len() <= first {
-        return &table[0..0];
-    }
-    let left = table.len() - first;
-    if left < count {
-        return &table[first..];
-    }
-    let end = first + count;
-    &table[first..end]
+    let rest = &table[first.min(table.len())..];
+    &rest[..count.min(rest.len())]
 }
 
 // The line of a byte, from the line of one before it: only what lies between is gone through.
