@@ -63,6 +63,7 @@ pub struct Label {
     pub position: usize,
 }
 
+// No `From` for the words of entries: a number means an action only in its table, and a level takes two.
 pub fn action_of(word: u64) -> Action
     ensures { result ≡ action_of word }
 {

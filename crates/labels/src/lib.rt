@@ -11,8 +11,7 @@ use label_names::{is_named, name_of};
 
 const FIRST_SEED: u32 = 1540483477;
 
-// Where a label stands, its bucket, and how many steps the walk took. A label not found has the place behind the last, where it is put:
-// an Option would drop that place, and each caller count it anew.
+// Where a label stands, its bucket, and how many steps the walk took. One not found has the place where it is put, which None would drop.
 #[derive(Clone, Copy)]
 struct Found {
     place: usize,

@@ -47,36 +47,19 @@ pub struct Token {
     pub raw: Span,
 }
 
-fn wide8(x: u8) -> u64
-    ensures { result ≡ x }
-{
-    x as u64
-}
-
-fn wide16(x: u16) -> u64
-    ensures { result ≡ x }
-{
-    x as u64
-}
-
-// 1 where the closing quote is missing.
-fn missing(closed: bool) -> u64
-    ensures { result ≡ cond closed 0 1 }
-{
-    if closed { 0 } else { 1 }
-}
-
-// The number of a kind: its place in `TokenKind`, and below 65,536 what it carries.
+// The number of a kind: its place in `TokenKind`, and below 65,536 what it carries, for a string 1 where its closing quote is missing.
+// No `From`: a token has two numbers, its kind's and its table word, and `u64::from` would not say which.
+#[tactic(auto, using(actions::proofs::Numbers::number_below))]
 pub fn kind_number(k: TokenKind) -> u64
     ensures { (result ≡ kind_number k) × (result < 2097152) }
 {
     match k {
         TokenKind::Newline => 0,
-        TokenKind::String(closed) => 65536 + missing(closed),
+        TokenKind::String(closed) => 65536 + u64::from(!closed),
         TokenKind::Float => 131072,
         TokenKind::Integer => 196608,
-        TokenKind::Register(n) => 262144 + wide8(n),
-        TokenKind::Constant(n) => 327680 + wide16(n),
+        TokenKind::Register(n) => 262144 + u64::from(n),
+        TokenKind::Constant(n) => 327680 + u64::from(n),
         TokenKind::ActionName(a) => 393216 + action_number(a) as u64,
         TokenKind::Identifier => 458752,
         TokenKind::Colon => 524288,
@@ -95,6 +78,7 @@ pub fn kind_number(k: TokenKind) -> u64
 
 // The kind of a number. A number of 18 * 65,536 or more is an Unknown's; below that the part above 65,536 gives the kind, a register is
 // taken modulo 256, an action number over 99 as 0.
+#[tactic(auto, unfolding(crate::specs::Kinds::kind_of))]
 pub fn kind_of(number: u64) -> TokenKind
     ensures { result ≡ kind_of number }
 {
@@ -156,41 +140,23 @@ pub fn token_of(word: u64) -> Token
     let inner = start + 1;
     let kind = kind_of(number);
     let span = Span { start, end };
-    if number / 65536 != 1 {
-        return Token {
-            kind,
-            span,
-            raw: span,
-        };
-    }
-    if end == 0 {
-        return Token {
-            kind,
-            span,
-            raw: Span {
-                start: inner,
-                end: 0,
-            },
-        };
-    }
-    Token {
-        kind,
-        span,
-        raw: Span {
+    let raw = if number / 65536 == 1 {
+        Span {
             start: inner,
-            end: end - 1,
-        },
-    }
+            end: end.saturating_sub(1),
+        }
+    } else {
+        span
+    };
+    Token { kind, span, raw }
 }
 
 // The bounds where they are in order and within `len` bytes, else the empty part at byte 0.
+#[tactic(auto, unfolding(crate::specs::Tokens::within))]
 pub fn bounds_within(len: usize, bounds: Span) -> Span
     ensures { result ≡ within len bounds }
 {
-    if bounds.end < bounds.start {
-        return Span { start: 0, end: 0 };
-    }
-    if len < bounds.end {
+    if bounds.end < bounds.start || len < bounds.end {
         return Span { start: 0, end: 0 };
     }
     bounds

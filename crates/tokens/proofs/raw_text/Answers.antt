@@ -1,5 +1,4 @@
 -- `tokens::raw_text` meets its contract: the bounds that it cuts at are those of the definition. Assumes nothing.
-use borrow.Author.Rules.{rules}
 use Rattle.tokens.proofs.Raw.{raw-ordered, raw-ends, raw-bytes, raw-place}
 use Rattle.tokens.proofs.raw_text.Goals as goal
 
