@@ -16,7 +16,7 @@ use export_fronts::{
     MARK, MARK_BYTE, answer_number, answer_place, are_marked, export_fronts, same_bytes, same_words,
 };
 use printing::{print_number, print_text};
-use records::{Cursor, number_from};
+use records::Cursor;
 use std::io;
 
 // ---- counts
@@ -89,28 +89,29 @@ fn style_of(n: u64) -> Style {
     Style::AsPlayed
 }
 
+fn places_at(c: &mut Cursor) -> usize
+    ensures { result ≤ 4096 }
+{
+    places(c.take().unwrap_or(0))
+}
+
 // A place of the level table is two words.
 fn call_at(list: &[u8], at: usize) -> Call {
-    let a = number_from(list, at);
-    let b = number_from(list, a.next);
-    let c = number_from(list, b.next);
-    let d = number_from(list, c.next);
-    let e = number_from(list, d.next);
-    let f = number_from(list, e.next);
-    let g = number_from(list, f.next);
+    let mut c = Cursor::new(list, at);
     let lent = Counts {
-        tokens: places(a.value),
-        actions: places(b.value),
-        operands: places(c.value),
-        levels: places(d.value) * 2,
-        labels: places(e.value),
+        tokens: places_at(&mut c),
+        actions: places_at(&mut c),
+        operands: places_at(&mut c),
+        levels: places_at(&mut c) * 2,
+        labels: places_at(&mut c),
     };
-    let style = style_of(f.value);
+    let style = style_of(c.take().unwrap_or(0));
+    let room = places_at(&mut c);
     Call {
         lent,
         style,
-        room: places(g.value),
-        next: g.next,
+        room,
+        next: c.at,
     }
 }
 
@@ -467,13 +468,13 @@ fn hold_told(
     }
 }
 
-fn expect_answer(list: &[u8], c: Cursor, told: Exporting, out: &[u8; 4096]) -> Cursor {
+fn expect_answer(c: &mut Cursor, told: Exporting, out: &[u8; 4096]) {
     match told {
         Exporting::Written(_, n) => {
-            let c = records::expect(list, c, 0);
-            records::expect_bytes(list, c, export_fronts::front(out, n))
+            c.expect(0);
+            c.expect_bytes(export_fronts::front(out, n));
         }
-        Exporting::Refused(r) => entry_records::expect_refusal(list, c, r),
+        Exporting::Refused(r) => entry_records::expect_refusal(c, r),
     }
 }
 
@@ -487,10 +488,11 @@ fn hold_answer(
     out: &[u8; 4096],
     counts: &mut [u64; 23],
 ) {
-    let c = expect_answer(list, records::begin(at), told, out);
-    let c = records::ended(c, next);
-    records::print_difference(rt, count_of(counts, CALLS), b"vectors", c.wrong);
-    if c.wrong != 0 {
+    let mut c = Cursor::new(list, at);
+    expect_answer(&mut c, told, out);
+    c.end(next);
+    records::print_difference(rt, count_of(counts, CALLS), "vectors", c.wrong);
+    if c.wrong.is_some() {
         add(counts, DIFFERENCES, 1);
     }
     add(counts, (answer_number(told) as usize).min(15), 1);
@@ -563,28 +565,28 @@ fn print_refusals(rt: HostRuntime, counts: &[u64; 23]) {
 }
 
 fn print_counts(rt: HostRuntime, counts: &[u64; 23]) {
-    records::print_count(rt, count_of(counts, CALLS), b" calls, ");
-    records::print_count(rt, count_of(counts, 0), b" accepted");
+    records::print_count(rt, count_of(counts, CALLS), " calls, ");
+    records::print_count(rt, count_of(counts, 0), " accepted");
     print_refusals(rt, counts);
     print_text(rt, b"\n");
-    records::print_count(rt, count_of(counts, BYTES), b" bytes compared\n");
+    records::print_count(rt, count_of(counts, BYTES), " bytes compared\n");
     records::print_count(
         rt,
         count_of(counts, FULL_OUTPUTS),
-        b" outputs exactly full, ",
+        " outputs exactly full, ",
     );
-    records::print_count(rt, count_of(counts, SHORT_OUTPUTS), b" one byte short\n");
+    records::print_count(rt, count_of(counts, SHORT_OUTPUTS), " one byte short\n");
     records::print_count(
         rt,
         count_of(counts, FULL_TABLES),
-        b" times all tables exactly full, ",
+        " times all tables exactly full, ",
     );
     records::print_count(
         rt,
         count_of(counts, SHORT_TABLES),
-        b" tables one place short\n",
+        " tables one place short\n",
     );
-    records::print_count(rt, count_of(counts, DIFFERENCES), b" differences\n");
+    records::print_count(rt, count_of(counts, DIFFERENCES), " differences\n");
 }
 
 fn main(rt: HostRuntime) -> io::Result<()> {

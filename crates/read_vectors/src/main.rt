@@ -7,39 +7,24 @@
 use answers::Refusal;
 use as2_pcode::{Counts, Tables};
 use entry_records::{Entries, Totals};
-use records::{Cursor, number_from};
+use level_trees::Source;
+use records::Cursor;
 use std::io;
 
-// What the tables are lent with, and where the list goes on.
-#[derive(Clone, Copy)]
-struct Call {
-    lent: Counts,
-    next: usize,
+fn places_at(c: &mut Cursor) -> usize {
+    c.take().unwrap_or(0) as usize
 }
 
-// A place of the level table is two words.
-fn call_at(list: &[u8], at: usize) -> Call {
-    let a = number_from(list, at);
-    let b = number_from(list, a.next);
-    let c = number_from(list, b.next);
-    let d = number_from(list, c.next);
-    let e = number_from(list, d.next);
-    let lent = Counts {
-        tokens: a.value as usize,
-        actions: b.value as usize,
-        operands: c.value as usize,
-        levels: (d.value as usize).min(2048) * 2,
-        labels: e.value as usize,
-    };
-    Call { lent, next: e.next }
+// What the tables are lent with. A place of the level table is two words.
+fn lent_at(c: &mut Cursor) -> Counts {
+    Counts {
+        tokens: places_at(c),
+        actions: places_at(c),
+        operands: places_at(c),
+        levels: places_at(c).min(2048) * 2,
+        labels: places_at(c),
+    }
 }
-
-const NO_ENTRIES: Entries = Entries {
-    actions: 0,
-    operands: 0,
-    levels: 0,
-    labels: 0,
-};
 
 fn entries_of(reading: Result<Counts, Refusal>) -> Entries {
     match reading {
@@ -49,53 +34,36 @@ fn entries_of(reading: Result<Counts, Refusal>) -> Entries {
             levels: n.levels,
             labels: n.labels,
         },
-        Err(_) => NO_ENTRIES,
+        Err(_) => Entries::default(),
     }
 }
 
-fn expect_answer(
-    list: &[u8],
-    c: Cursor,
-    text: &[u8],
-    words: &[u64; 2048],
-    acted: &[u64; 2048],
-    operands: &[u64; 2048],
-    levels: &[u64; 4096],
-    labels: &[u64; 2048],
-    reading: Result<Counts, Refusal>,
-) -> Cursor {
+fn expect_answer(c: &mut Cursor, of: Source, reading: Result<Counts, Refusal>) {
     match reading {
         Ok(_) => {
-            let c = records::expect(list, c, 0);
-            let n = entries_of(reading);
-            entry_records::expect_entries(list, c, text, words, acted, operands, levels, labels, n)
+            c.expect(0);
+            entry_records::expect_entries(c, of, entries_of(reading));
         }
-        Err(r) => entry_records::expect_refusal(list, c, r),
+        Err(r) => entry_records::expect_refusal(c, r),
     }
 }
 
-// One text more: a difference is printed as it is found.
-fn count(
+// A difference is printed as it is found. No call of the list has a table of more than 2,048 places.
+fn hold(
     rt: HostRuntime,
-    words: &[u64; 2048],
-    operands: &[u64; 2048],
-    reading: Result<Counts, Refusal>,
-    c: Cursor,
-    t: Totals,
-) -> Totals {
-    records::print_difference(rt, t.texts, b"vectors", c.wrong);
-    entry_records::add(t, entries_of(reading), words, operands, c)
-}
-
-// No call of the list has a table of more than 2,048 places.
-fn hold(rt: HostRuntime, list: &[u8], stop: usize, next: usize, text: &[u8], t: Totals) -> Totals {
+    list: &[u8],
+    stop: usize,
+    next: usize,
+    text: &[u8],
+    totals: &mut Totals,
+) {
     let mut words = [0u64; 2048];
     let mut acted = [0u64; 2048];
     let mut operands = [0u64; 2048];
     let mut levels = [0u64; 4096];
     let mut labels = [0u64; 2048];
-    let call = call_at(list, stop);
-    let lent = call.lent;
+    let mut c = Cursor::new(list, stop);
+    let lent = lent_at(&mut c);
     let tables = Tables {
         tokens: &mut words,
         actions: &mut acted,
@@ -104,43 +72,34 @@ fn hold(rt: HostRuntime, list: &[u8], stop: usize, next: usize, text: &[u8], t: 
         labels: &mut labels,
     };
     let reading = fronts::read_fronts(text, lent, tables);
-    let told = expect_answer(
-        list,
-        records::begin(call.next),
+    let of = Source {
         text,
-        &words,
-        &acted,
-        &operands,
-        &levels,
-        &labels,
-        reading,
-    );
-    count(
-        rt,
-        &words,
-        &operands,
-        reading,
-        records::ended(told, next),
-        t,
-    )
+        tokens: &words,
+        actions: &acted,
+        operands: &operands,
+        levels: &levels,
+        labels: &labels,
+    };
+    expect_answer(&mut c, of, reading);
+    c.end(next);
+    records::print_difference(rt, totals.texts, "vectors", c.wrong);
+    totals.add(entries_of(reading), of, &c);
 }
 
 fn replay(rt: HostRuntime, list: &[u8]) -> Totals {
-    let mut t = entry_records::NOTHING_YET;
+    let mut totals = Totals::default();
     let mut at = 0;
     while at < list.len() {
         let r = records::record_at(list, at);
-        let start = r.start;
-        let stop = r.stop;
-        t = hold(rt, list, stop, r.next, &list[start..stop], t);
+        hold(rt, list, r.stop, r.next, &list[r.start..r.stop], &mut totals);
         at = r.next;
     }
-    t
+    totals
 }
 
 fn main(rt: HostRuntime) -> io::Result<()> {
     let mut list = [0u8; 65536];
     let n = records::read_list(rt, "vectors", &mut list)?;
-    entry_records::print_totals(rt, replay(rt, &list[..n]));
+    replay(rt, &list[..n]).print(rt);
     Ok(())
 }

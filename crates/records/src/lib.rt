@@ -4,102 +4,53 @@
 // before eight, low byte first. A signed number is written as twice its size, less one if it is negative.
 #![tactic(auto)]
 
-ghost use Rattle.std.specs.Prelude.{◌≡◌, ◌<◌, ◌≤◌, IfOk, length};
+ghost use Rattle.std.specs.Prelude.{◌<◌, ◌≤◌, IfOk, IfSome, length};
 
-use printing::{print_number, print_text};
 use std::fs::File;
 use std::io;
-use std::io::Read;
 use tokens::TokenKind;
 
 // ---- numbers
 
-fn byte_at(list: &[u8], at: usize) -> u64
-    ensures { result ≤ 255 }
-{
-    if at < list.len() {
-        return wide(list[at]);
-    }
-    0
-}
-
-fn wide(b: u8) -> u64
-    ensures { result ≤ 255 }
-{
-    b as u64
-}
-
-fn two_at(list: &[u8], at: usize) -> u64
-    requires { at < 18446744073709551615 }
-    ensures { result ≤ 65535 }
-{
-    byte_at(list, at) + byte_at(list, at + 1) * 256
-}
-
-fn four_at(list: &[u8], at: usize) -> u64
-    requires { at < 18446744073709551613 }
-    ensures { result ≤ 4294967295 }
-{
-    two_at(list, at) + two_at(list, at + 2) * 65536
-}
-
-// A number, and where the next one starts; not whole if the list ends before it does.
+// A number, and where the next one starts.
 #[derive(Clone, Copy)]
-pub struct Taken {
-    pub whole: bool,
-    pub value: u64,
-    pub next: usize,
+struct Taken {
+    value: u64,
+    next: usize,
 }
 
-fn number_then(value: u64, next: usize) -> Taken
-    ensures { result.next ≡ next }
+// The number that a list starts with, and how many bytes it takes; none where the list ends before it does.
+fn first_number(list: &[u8]) -> Option<Taken>
+    ensures { IfSome result (λ t. (0 < t.next) × (t.next ≤ length list.now)) }
 {
-    Taken {
-        whole: true,
-        value,
-        next,
+    match list {
+        [255, a, b, c, d, e, f, g, h, ..] => Some(Taken {
+            value: u64::from_le_bytes([*a, *b, *c, *d, *e, *f, *g, *h]),
+            next: 9,
+        }),
+        [254, a, b, ..] => Some(Taken {
+            value: u64::from(u16::from_le_bytes([*a, *b])),
+            next: 3,
+        }),
+        [254 | 255, ..] | [] => None,
+        [first, ..] => Some(Taken {
+            value: u64::from(*first),
+            next: 1,
+        }),
     }
 }
 
-fn cut_off(next: usize) -> Taken
-    ensures { result.next ≡ next }
+fn number_at(list: &[u8], at: usize) -> Option<Taken>
+    ensures { IfSome result (λ t. (at < t.next) × (t.next ≤ length list.now)) }
 {
-    Taken {
-        whole: false,
-        value: 0,
-        next,
-    }
-}
-
-fn number_at(list: &[u8], at: usize) -> Taken
-    requires { at < length list.now }
-    ensures { (at < result.next) × (result.next ≤ length list.now) }
-{
-    let left = list.len() - at;
-    let first = byte_at(list, at);
-    if first < 254 {
-        return number_then(first, at + 1);
-    }
-    if first == 254 {
-        if left < 3 {
-            return cut_off(list.len());
-        }
-        return number_then(two_at(list, at + 1), at + 3);
-    }
-    if left < 9 {
-        return cut_off(list.len());
-    }
-    number_then(
-        four_at(list, at + 1) + four_at(list, at + 5) * 4294967296,
-        at + 9,
-    )
-}
-
-pub fn number_from(list: &[u8], at: usize) -> Taken {
     if list.len() <= at {
-        return cut_off(at);
+        return None;
     }
-    number_at(list, at)
+    let first = first_number(&list[at..])?;
+    Some(Taken {
+        value: first.value,
+        next: at + first.next,
+    })
 }
 
 // The signed number that is written as n; one that no reading has where n is too large.
@@ -116,89 +67,81 @@ fn signed(n: u64) -> i64 {
 
 // ---- what was told, held to the list
 
-// Where in the list the next number stands, where the first stood that was not as expected (0: none yet), and how many
-// numbers were passed over.
+// Where in the list the next number stands, where the first stood that was not as expected, and how many numbers were passed over.
 #[derive(Clone, Copy)]
-pub struct Cursor {
+pub struct Cursor<'a> {
+    list: &'a [u8],
     pub at: usize,
-    pub wrong: usize,
+    pub wrong: Option<usize>,
     pub passed: u64,
 }
 
-pub fn begin(at: usize) -> Cursor {
-    Cursor {
-        at,
-        wrong: 0,
-        passed: 0,
+impl<'a> Cursor<'a> {
+    pub fn new(list: &'a [u8], at: usize) -> Cursor<'a> {
+        Cursor {
+            list,
+            at,
+            wrong: None,
+            passed: 0,
+        }
     }
-}
 
-pub fn agreeing(c: Cursor, next: usize) -> Cursor {
-    Cursor {
-        at: next,
-        wrong: c.wrong,
-        passed: c.passed,
+    // The next number, which is compared to nothing. Where the list ends before it does, nothing follows.
+    pub fn take(&mut self) -> Option<u64> {
+        match number_at(self.list, self.at) {
+            Some(told) => {
+                self.at = told.next;
+                Some(told.value)
+            }
+            None => {
+                self.at = self.list.len();
+                None
+            }
+        }
     }
-}
 
-// The first difference is kept.
-pub fn differing(c: Cursor, next: usize) -> Cursor {
-    if c.wrong != 0 {
-        return agreeing(c, next);
+    // The first difference is kept.
+    pub fn differ(&mut self, at: usize) {
+        self.wrong = self.wrong.or(Some(at));
     }
-    Cursor {
-        at: next,
-        wrong: c.at,
-        passed: c.passed,
-    }
-}
 
-fn agreeing_if(same: bool, c: Cursor, next: usize) -> Cursor {
-    if same {
-        return agreeing(c, next);
+    pub fn expect(&mut self, n: u64) {
+        let from = self.at;
+        if self.take() != Some(n) {
+            self.differ(from);
+        }
     }
-    differing(c, next)
-}
 
-pub fn expect(list: &[u8], c: Cursor, n: u64) -> Cursor {
-    let told = number_from(list, c.at);
-    if !told.whole {
-        return differing(c, told.next);
+    pub fn expect_signed(&mut self, n: i64) {
+        let from = self.at;
+        match self.take() {
+            Some(told) if signed(told) == n => {}
+            _ => self.differ(from),
+        }
     }
-    agreeing_if(told.value == n, c, told.next)
-}
 
-pub fn expect_signed(list: &[u8], c: Cursor, n: i64) -> Cursor {
-    let told = number_from(list, c.at);
-    if !told.whole {
-        return differing(c, told.next);
+    // How many bytes, and each of them.
+    pub fn expect_bytes(&mut self, bytes: &[u8]) {
+        self.expect(bytes.len() as u64);
+        for b in bytes {
+            self.expect(u64::from(*b));
+        }
     }
-    agreeing_if(signed(told.value) == n, c, told.next)
-}
 
-pub fn expect_i32(list: &[u8], c: Cursor, n: i32) -> Cursor {
-    expect_signed(list, c, n as i64)
-}
-
-// How many bytes, and each of them.
-pub fn expect_bytes(list: &[u8], c: Cursor, bytes: &[u8]) -> Cursor {
-    let mut c = expect(list, c, bytes.len() as u64);
-    for b in bytes {
-        c = expect(list, c, wide(*b));
+    // The next number is not compared.
+    pub fn pass(&mut self) {
+        let from = self.at;
+        match self.take() {
+            Some(_) => self.passed = self.passed.wrapping_add(1),
+            None => self.differ(from),
+        }
     }
-    c
-}
 
-// The next number is not compared.
-pub fn pass(list: &[u8], c: Cursor) -> Cursor {
-    let told = number_from(list, c.at);
-    if !told.whole {
-        return differing(c, told.next);
-    }
-    Cursor {
-        at: told.next,
-        wrong: c.wrong,
-        passed: std::num::wrapping_add_u64(c.passed, 1),
+    // A record that says more, or less, than was looked at is a difference.
+    pub fn end(&mut self, next: usize) {
+        if self.at != next {
+            self.differ(self.at);
+        }
     }
 }
 
@@ -221,47 +164,39 @@ pub struct Record {
     pub next: usize,
 }
 
+// One that fits the list.
+fn fitting(list: &[u8], at: usize) -> Option<Record>
+    ensures { IfSome result (λ r. (at < r.next) × ((r.start ≤ r.stop) × ((r.stop ≤ r.next) × (r.next ≤ length list.now)))) }
+{
+    let size = number_at(list, at)?;
+    let body = size.next;
+    if list.len() - body < size.value as usize {
+        return None;
+    }
+    let next = body + size.value as usize;
+    let len = number_at(list, body)?;
+    let start = len.next;
+    if next < start || next - start < len.value as usize {
+        return None;
+    }
+    Some(Record {
+        start,
+        stop: start + len.value as usize,
+        next,
+    })
+}
+
 // One that does not fit the list is empty and the last: it has no answer, which is a difference.
 pub fn record_at(list: &[u8], at: usize) -> Record
     requires { at < length list.now }
     ensures { (at < result.next) × ((result.start ≤ result.stop) × ((result.stop ≤ result.next) × (result.next ≤ length list.now))) }
 {
     let all = list.len();
-    let none = Record {
+    fitting(list, at).unwrap_or(Record {
         start: all,
         stop: all,
         next: all,
-    };
-    let size = number_at(list, at);
-    let from = size.next;
-    if all - from < size.value as usize {
-        return none;
-    }
-    if size.value == 0 {
-        return none;
-    }
-    let end = from + size.value as usize;
-    let len = number_at(list, from);
-    let start = len.next;
-    if end < start {
-        return none;
-    }
-    if end - start < len.value as usize {
-        return none;
-    }
-    Record {
-        start,
-        stop: start + len.value as usize,
-        next: end,
-    }
-}
-
-// A record that says more, or less, than was looked at is a difference.
-pub fn ended(c: Cursor, next: usize) -> Cursor {
-    if c.at == next {
-        return c;
-    }
-    differing(c, next)
+    })
 }
 
 // The first bytes of a file, as many as the list has room for.
@@ -269,34 +204,18 @@ pub fn read_list(rt: HostRuntime, path: &str, list: &mut [u8]) -> io::Result<usi
     ensures { IfOk result (λ n. n ≤ length list.new) }
 {
     let mut file = File::open(&rt, path)?;
-    let mut n = 0;
-    while n < list.len() {
-        let more = file.read(&mut list[n..])?;
-        if more == 0 {
-            break;
-        }
-        n += more;
-    }
-    Ok(n)
+    files::read_up_to(&mut file, list)
 }
 
 // ---- what the programs print
 
-pub fn print_count(rt: HostRuntime, n: u64, what: &[u8]) {
-    print_number(rt, n);
-    print_text(rt, what);
+pub fn print_count(rt: HostRuntime, n: u64, what: &str) {
+    let _ = print!(rt; "{n}{what}");
 }
 
 // Which text of all differs, the file, and the byte there of the first number that was not as expected; nothing where all were.
-pub fn print_difference(rt: HostRuntime, text: u64, path: &[u8], wrong: usize) {
-    if wrong == 0 {
-        return;
+pub fn print_difference(rt: HostRuntime, text: u64, path: &str, wrong: Option<usize>) {
+    if let Some(byte) = wrong {
+        let _ = print!(rt; "text {text} differs, {path} byte {byte}\n");
     }
-    print_text(rt, b"text ");
-    print_number(rt, text);
-    print_text(rt, b" differs, ");
-    print_text(rt, path);
-    print_text(rt, b" byte ");
-    print_number(rt, wrong as u64);
-    print_text(rt, b"\n");
 }

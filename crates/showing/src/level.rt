@@ -68,11 +68,16 @@ fn put_label(out: &mut Columns, text: &[u8], tokens: &[u64], l: Label) {
 
 // The table has the labels by level.
 pub fn put_levels(out: &mut Columns, of: Source, n: usize) {
-    let mut labels = of.labels.iter().peekable();
+    let mut next = 0;
     for i in 0..n {
         put_level(out, of.actions, i, entries::level_in(of.levels, i));
-        while let Some(word) = labels.next_if(|word| entries::label_of(**word).level == i) {
-            put_label(out, of.text, of.tokens, entries::label_of(*word));
+        for k in next..of.labels.len() {
+            let label = entries::label_in(of.labels, k);
+            if label.level != i {
+                break;
+            }
+            put_label(out, of.text, of.tokens, label);
+            next = k + 1;
         }
     }
 }
