@@ -4,26 +4,17 @@
 use names::ActionName;
 use printing::{print_number, print_signed, print_text};
 
-// A refusal shows as a number that no delta is.
-fn shown(a: ActionName, values: usize, name_is_empty: bool) -> i32 {
-    match pcode::delta(a, values, name_is_empty) {
-        Ok(d) => d,
-        Err(_) => 1000000,
-    }
-}
-
 // The three rules beside the table show as what the delta depends on.
 fn print_delta(rt: HostRuntime, a: ActionName) {
-    let d = shown(a, 0, false);
-    if d == 1000000 {
+    let Ok(d) = pcode::delta(a, 0, false) else {
         print_text(rt, b"?");
         return;
-    }
-    if shown(a, 65536, false) == 65536 {
+    };
+    if let Ok(65536) = pcode::delta(a, 65536, false) {
         print_text(rt, b"its value count");
         return;
     }
-    if shown(a, 0, true) != d {
+    if pcode::delta(a, 0, true).ok() != Some(d) {
         print_text(rt, b"1 if the raw name is empty, else ");
     }
     print_signed(rt, d);

@@ -1,8 +1,6 @@
 // Runs the leaves at their limits, a line for each case.
 #![tactic(auto)]
 
-ghost use Rattle.std.specs.Prelude.{◌≤◌};
-
 use answers::Refusal;
 use names::ActionName;
 use printing::{print_number, print_refusal, print_signed, print_span, print_text};
@@ -10,26 +8,13 @@ use tokens::{Span, Token, TokenKind};
 
 // ---- numbers there and back
 
-// 1 where a number is an action's (or a kind's) and comes back from it, else 0.
-fn comes_back(n: u64, of_kinds: bool) -> u64
-    ensures { result ≤ 1 }
+// How many numbers below a limit come back.
+fn count_back<F: Fn(u64) -> bool>(limit: u64, comes_back: F) -> u64
+    requires { F.IsAlwaysCallable comes_back }
 {
-    if of_kinds {
-        if tokens::kind_number(tokens::kind_of(n)) == n {
-            return 1;
-        }
-        return 0;
-    }
-    if actions::action_number(actions::action_at(n as usize)) as u64 == n {
-        return 1;
-    }
-    0
-}
-
-fn count_back(limit: u64, of_kinds: bool) -> u64 {
     let mut good: u64 = 0;
     for n in 0..limit {
-        good += comes_back(n, of_kinds);
+        good = good.wrapping_add(u64::from(comes_back(n)));
     }
     good
 }
@@ -101,34 +86,22 @@ const WRITTEN: [Written; 11] = [
     },
 ];
 
-fn word_at(i: usize) -> u64 {
-    if 11 <= i {
-        return 18446744073709551615;
-    }
-    let w = WRITTEN[i];
-    let kind = w.kind;
-    let start = w.start;
-    let end = w.end;
-    if 65536 < start {
+fn word_of(w: Written) -> u64 {
+    if 65536 < w.start || 65536 < w.end {
         return 0;
     }
-    if 65536 < end {
-        return 0;
-    }
-    tokens::word_of(kind, start, end)
+    tokens::word_of(w.kind, w.start, w.end)
 }
 
-fn print_token(rt: HostRuntime, i: usize) {
-    let t = tokens::token_of(word_at(i));
-    let kind = t.kind;
-    let span = t.span;
-    let raw = t.raw;
+fn print_token(rt: HostRuntime, word: u64) {
+    let t = tokens::token_of(word);
     print_text(rt, b"token ");
-    print_number(rt, tokens::kind_number(kind));
+    print_number(rt, tokens::kind_number(t.kind));
     print_text(rt, b" ");
-    print_span(rt, span);
+    print_span(rt, t.span);
     print_text(rt, b" ");
-    print_span(rt, raw);
+    print_span(rt, t.raw);
+    print_text(rt, b"\n");
 }
 
 // ---- raw text
@@ -160,11 +133,7 @@ const BOUNDS: [Span; 13] = [
     },
 ];
 
-fn print_raw(rt: HostRuntime, i: usize) {
-    if 13 <= i {
-        return;
-    }
-    let bounds = BOUNDS[i];
+fn print_raw(rt: HostRuntime, bounds: Span) {
     let token = Token {
         kind: TokenKind::Identifier,
         span: bounds,
@@ -174,7 +143,7 @@ fn print_raw(rt: HostRuntime, i: usize) {
     print_span(rt, bounds);
     print_text(rt, b" [");
     print_text(rt, tokens::raw_text(b"start: Add", token));
-    print_text(rt, b"]");
+    print_text(rt, b"]\n");
 }
 
 // ---- deltas
@@ -259,23 +228,17 @@ const GIVEN: [Given; 14] = [
     },
 ];
 
-fn print_delta(rt: HostRuntime, i: usize) {
-    if 14 <= i {
-        return;
-    }
-    let g = GIVEN[i];
-    let action = g.action;
-    let values = g.values;
-    let name_is_empty = g.name_is_empty;
+fn print_delta(rt: HostRuntime, g: Given) {
     print_text(rt, b"delta of action ");
-    print_number(rt, actions::action_number(action) as u64);
+    print_number(rt, actions::action_number(g.action) as u64);
     print_text(rt, b" with ");
-    print_number(rt, values as u64);
+    print_number(rt, g.values as u64);
     print_text(rt, b": ");
-    match pcode::delta(action, values, name_is_empty) {
+    match pcode::delta(g.action, g.values, g.name_is_empty) {
         Ok(d) => print_signed(rt, d),
         Err(r) => print_refusal(rt, r),
     }
+    print_text(rt, b"\n");
 }
 
 // ---- refusals
@@ -309,48 +272,34 @@ const REFUSALS: [Refusal; 26] = [
     Refusal::BadText(125),
 ];
 
-fn print_row(rt: HostRuntime, i: usize) {
-    if 26 <= i {
-        return;
-    }
-    let r = REFUSALS[i];
-    print_refusal(rt, r);
-}
-
 // ---- all cases
 
-fn print_case(rt: HostRuntime, i: usize) {
-    if i < 12 {
-        print_token(rt, i);
-        return;
+fn print_cases(rt: HostRuntime) {
+    for w in &WRITTEN {
+        print_token(rt, word_of(*w));
     }
-    if i < 25 {
-        print_raw(rt, i - 12);
-        return;
+    print_token(rt, u64::MAX);
+    for bounds in &BOUNDS {
+        print_raw(rt, *bounds);
     }
-    if i < 39 {
-        print_delta(rt, i - 25);
-        return;
+    for g in &GIVEN {
+        print_delta(rt, *g);
     }
-    print_row(rt, i - 39);
-}
-
-fn print_line(rt: HostRuntime, i: usize) {
-    print_case(rt, i);
-    print_text(rt, b"\n");
-}
-
-fn print_lines(rt: HostRuntime) {
-    for i in 0..65 {
-        print_line(rt, i);
+    for r in &REFUSALS {
+        print_refusal(rt, *r);
+        print_text(rt, b"\n");
     }
 }
 
 fn main(rt: HostRuntime) {
     print_text(rt, b"actions there and back: ");
-    print_number(rt, count_back(65536, false));
+    let actions = count_back(65536, |n| {
+        actions::action_number(actions::action_at(n as usize)) as u64 == n
+    });
+    print_number(rt, actions);
     print_text(rt, b"\nkinds there and back: ");
-    print_number(rt, count_back(2097152, true));
+    let kinds = count_back(2097152, |n| tokens::kind_number(tokens::kind_of(n)) == n);
+    print_number(rt, kinds);
     print_text(rt, b"\n");
-    print_lines(rt);
+    print_cases(rt);
 }

@@ -6,101 +6,45 @@
 
 ghost use Rattle.std.specs.Prelude.{◌<◌, ◌≤◌, length};
 
+use answers::Refusal;
 use printing::{print_number, print_text};
 use std::io;
 
-fn wide(b: u8) -> u64
-    ensures { result ≤ 255 }
-{
-    b as u64
-}
-
 // The number at an index, or 0 where the list ends before it does.
 fn number_at(list: &[u8], at: usize) -> u64 {
-    if list.len() < 4 {
-        return 0;
+    match list.get(at..) {
+        Some([a, b, c, d, ..]) => u64::from(u32::from_le_bytes([*a, *b, *c, *d])),
+        _ => 0,
     }
-    if list.len() - 4 < at {
-        return 0;
-    }
-    wide(list[at])
-        + wide(list[at + 1]) * 256
-        + wide(list[at + 2]) * 65536
-        + wide(list[at + 3]) * 16777216
 }
 
-// Whether the token of a word is the one that the list has at an index.
-fn same_token(list: &[u8], at: usize, word: u64) -> bool {
-    if list.len() < 20 {
-        return false;
-    }
-    if list.len() - 20 < at {
-        return false;
-    }
+// Whether the token of a word is the one that the list starts with.
+fn same_token(list: &[u8], word: u64) -> bool {
     let token = tokens::token_of(word);
-    let kind = token.kind;
-    let span = token.span;
-    let raw = token.raw;
-    if number_at(list, at) != records::rust_kind(kind) {
-        return false;
-    }
-    if number_at(list, at + 4) != span.start as u64 {
-        return false;
-    }
-    if number_at(list, at + 8) != span.end as u64 {
-        return false;
-    }
-    if number_at(list, at + 12) != raw.start as u64 {
-        return false;
-    }
-    number_at(list, at + 16) == raw.end as u64
+    number_at(list, 0) == records::rust_kind(token.kind)
+        && number_at(list, 4) == token.span.start as u64
+        && number_at(list, 8) == token.span.end as u64
+        && number_at(list, 12) == token.raw.start as u64
+        && number_at(list, 16) == token.raw.end as u64
 }
 
 // Whether the first n words of a table are the tokens that the list has from its start on.
 fn same_tokens(list: &[u8], table: &[u64], n: usize) -> bool {
-    if table.len() < n {
-        return false;
-    }
-    if list.len() / 20 < n {
-        return false;
-    }
-    for i in 0..n {
-        if !same_token(list, i * 20, table[i]) {
-            return false;
-        }
-    }
-    true
+    n <= list.len() / 20
+        && list
+            .chunks_exact(20)
+            .zip(table.iter().take(n))
+            .all(|(told, word)| same_token(told, *word))
 }
 
 // Whether lexing answers as the Rust did: `list` starts with the tokens that are expected.
 fn same_answer(text: &[u8], answer: u64, count: u64, list: &[u8]) -> bool {
     let mut table = [0u64; 4096];
-    match lexer::lex(text, &mut table) {
-        Ok(n) => {
-            if answer != 0 {
-                return false;
-            }
-            if n as u64 != count {
-                return false;
-            }
-            same_tokens(list, &table, n)
-        }
-        Err(r) => {
-            let number = answers::refusal_number(r);
-            if answer == 2 {
-                if number != 2 {
-                    return false;
-                }
-                return answers::refusal_place(r) as u64 == count;
-            }
-            if answer == 3 {
-                if number == 3 {
-                    return true;
-                }
-                return number == 4;
-            }
-            false
-        }
+    match (answer, lexer::lex(text, &mut table)) {
+        (0, Ok(n)) => n as u64 == count && same_tokens(list, &table, n),
+        (2, Err(Refusal::NotUtf8(p))) => p as u64 == count,
+        (3, Err(Refusal::LoneQuote(_) | Refusal::CutCharacter(_))) => true,
+        _ => false,
     }
 }
 
@@ -145,10 +89,7 @@ fn judge(list: &[u8], at: usize) -> Judged
 
 // Only an accepted text has tokens in its record.
 fn entries_of(answer: u64, count: u64) -> usize {
-    if answer == 0 {
-        return count as usize;
-    }
-    0
+    if answer == 0 { count as usize } else { 0 }
 }
 
 fn print_verdict(rt: HostRuntime, texts: u64, good: u64) {

@@ -2,11 +2,9 @@
 // its u8, u16 and i32; then tokens that no text yields, and texts of 65,536 and 65,537 bytes.
 #![tactic(auto)]
 
-ghost use Rattle.std.specs.Prelude.{◌≤◌, IfOk, length};
-
+use answers::Refusal;
 use printing::{print_bits, print_number, print_refusal, print_signed, print_span, print_text};
 use std::io;
-use std::io::Read;
 use tokens::{Span, Token, TokenKind};
 use values::PushValue;
 
@@ -74,8 +72,7 @@ fn print_token(rt: HostRuntime, text: &[u8], token: Token) {
     print_text(rt, tokens::raw_text(text, token));
     print_text(rt, b" is ");
     print_value(rt, values::value(text, token));
-    let kind = token.kind;
-    if let TokenKind::Integer = kind {
+    if let TokenKind::Integer = token.kind {
         print_widths(rt, text, token);
     }
     print_text(rt, b"\n");
@@ -83,18 +80,15 @@ fn print_token(rt: HostRuntime, text: &[u8], token: Token) {
 
 fn print_unless_newline(rt: HostRuntime, text: &[u8], word: u64) {
     let token = tokens::token_of(word);
-    let kind = token.kind;
-    match kind {
+    match token.kind {
         TokenKind::Newline => {}
         _ => print_token(rt, text, token),
     }
 }
 
 fn print_tokens(rt: HostRuntime, text: &[u8], table: &[u64], n: usize) {
-    for i in 0..n {
-        if i < table.len() {
-            print_unless_newline(rt, text, table[i]);
-        }
+    for word in table.iter().take(n) {
+        print_unless_newline(rt, text, *word);
     }
 }
 
@@ -188,18 +182,13 @@ const ODD: [Odd; 14] = [
     },
 ];
 
-fn print_odd(rt: HostRuntime, i: usize) {
-    if 14 <= i {
-        return;
-    }
-    let odd = ODD[i];
+fn print_odd(rt: HostRuntime, odd: Odd) {
     let raw = Span {
         start: odd.start,
         end: odd.end,
     };
-    let kind = odd.kind;
     let token = Token {
-        kind,
+        kind: odd.kind,
         span: raw,
         raw,
     };
@@ -209,8 +198,8 @@ fn print_odd(rt: HostRuntime, i: usize) {
 }
 
 fn print_odds(rt: HostRuntime) {
-    for i in 0..14 {
-        print_odd(rt, i);
+    for odd in &ODD {
+        print_odd(rt, *odd);
     }
 }
 
@@ -229,25 +218,9 @@ fn print_true_in(rt: HostRuntime, text: &[u8]) {
     print_text(rt, b"\n");
 }
 
-// The first bytes of standard input, as many as the text has room for.
-fn read_full(rt: HostRuntime, text: &mut [u8]) -> io::Result<usize>
-    ensures { IfOk result (λ n. n ≤ length text.new) }
-{
-    let mut input = rt.stdin();
-    let mut n = 0;
-    while n < text.len() {
-        let more = input.read(&mut text[n..])?;
-        if more == 0 {
-            break;
-        }
-        n += more;
-    }
-    Ok(n)
-}
-
 fn main(rt: HostRuntime) -> io::Result<()> {
     let mut input = [0u8; 4096];
-    let n = read_full(rt, &mut input)?;
+    let n = files::read_up_to(&mut rt.stdin(), &mut input)?;
     print_all(rt, &input[..n]);
     print_odds(rt);
     let text = [32u8; 65537];
