@@ -29,7 +29,10 @@ fn print_action(rt: HostRuntime, of: Source, i: usize) {
     print_text(rt, b" ");
     print_name(rt, a.name);
     print_text(rt, b" ");
-    print_delta(rt, lookups::delta_at(of.text, of.tokens, of.actions, of.operands, i));
+    print_delta(
+        rt,
+        lookups::delta_at(of.text, of.tokens, of.actions, of.operands, i),
+    );
     print_text(rt, b"\n");
 }
 
@@ -46,7 +49,10 @@ fn print_label(rt: HostRuntime, of: Source, l: Label) {
 
 // The table of labels has them by level and order.
 fn print_entries(rt: HostRuntime, of: Source, c: Counts) {
-    let _ = print!(rt; "actions {} labels {} levels {}\n", c.actions, c.labels, c.levels);
+    let _ = print!(rt;
+        "actions {} labels {} levels {}\n",
+        c.actions, c.labels, c.levels
+    );
     for i in 0..c.actions {
         print_action(rt, of, i);
     }

@@ -228,7 +228,15 @@ fn replay(rt: HostRuntime, list: &[u8], path: &str, totals: &mut Totals) {
     let mut at = 0;
     while at < list.len() {
         let r = records::record_at(list, at);
-        hold(rt, list, path, r.stop, r.next, &list[r.start..r.stop], totals);
+        hold(
+            rt,
+            list,
+            path,
+            r.stop,
+            r.next,
+            &list[r.start..r.stop],
+            totals,
+        );
         at = r.next;
     }
 }

@@ -49,14 +49,7 @@ fn expect_answer(c: &mut Cursor, of: Source, reading: Result<Counts, Refusal>) {
 }
 
 // A difference is printed as it is found. No call of the list has a table of more than 2,048 places.
-fn hold(
-    rt: HostRuntime,
-    list: &[u8],
-    stop: usize,
-    next: usize,
-    text: &[u8],
-    totals: &mut Totals,
-) {
+fn hold(rt: HostRuntime, list: &[u8], stop: usize, next: usize, text: &[u8], totals: &mut Totals) {
     let mut words = [0u64; 2048];
     let mut acted = [0u64; 2048];
     let mut operands = [0u64; 2048];
@@ -91,7 +84,14 @@ fn replay(rt: HostRuntime, list: &[u8]) -> Totals {
     let mut at = 0;
     while at < list.len() {
         let r = records::record_at(list, at);
-        hold(rt, list, r.stop, r.next, &list[r.start..r.stop], &mut totals);
+        hold(
+            rt,
+            list,
+            r.stop,
+            r.next,
+            &list[r.start..r.stop],
+            &mut totals,
+        );
         at = r.next;
     }
     totals

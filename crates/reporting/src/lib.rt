@@ -113,7 +113,11 @@ fn print_report(to: Printer, name: &[u8], of: Lexed, r: Refusal, with_place: boo
     let at = byte_of(of, r);
     print_name(to, name);
     if let Some(at) = at {
-        print_place(to, places::line_at(of.text, at), places::column_at(of.text, at));
+        print_place(
+            to,
+            places::line_at(of.text, at),
+            places::column_at(of.text, at),
+        );
     }
     print_number_of(to, r, with_place);
     print_meaning(to, of, r);
@@ -124,14 +128,7 @@ fn print_report(to: Printer, name: &[u8], of: Lexed, r: Refusal, with_place: boo
 }
 
 // A refusal leaves the token table as it was, and its place may be a token or an action: the text is lexed again.
-fn report(
-    to: Printer,
-    name: &[u8],
-    text: &[u8],
-    tokens: &mut [u64],
-    r: Refusal,
-    with_place: bool,
-) {
+fn report(to: Printer, name: &[u8], text: &[u8], tokens: &mut [u64], r: Refusal, with_place: bool) {
     let n = lexer::lex(text, tokens).unwrap_or(0);
     let tokens = lookups::words_from(tokens, 0, n);
     print_report(to, name, Lexed { text, tokens }, r, with_place);

@@ -72,7 +72,10 @@ fn takes_label(a: ActionName) -> bool {
 fn put_meaning(out: &mut Columns, of: Source, a: Action, token: Token) {
     if takes_label(a.name) {
         let name = raw_text(of.text, token);
-        put_target(out, lookups::target_of(of.text, of.tokens, of.labels, a.level, name));
+        put_target(
+            out,
+            lookups::target_of(of.text, of.tokens, of.labels, a.level, name),
+        );
     } else {
         put_value(out, of.text, token);
     }
