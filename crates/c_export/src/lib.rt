@@ -5,7 +5,8 @@ ghost use Rattle.std.specs.Prelude.{◌≡◌};
 ghost use Rattle.c_export.specs.Telling.{style_with, export_number, export_after};
 
 use action_records::Style;
-use export::Exporting;
+use answers::Refusal;
+use export::Exported;
 
 pub fn style_with(as_printed: bool) -> Style
     ensures { result ≡ style_with as_printed }
@@ -17,12 +18,17 @@ pub fn style_with(as_printed: bool) -> Style
     }
 }
 
-pub fn tell_export(answer: Exporting, told: &mut [u64; 6]) -> u64
+pub fn tell_export(answer: Result<Exported, Refusal>, told: &mut [u64; 6]) -> u64
     ensures value { result ≡ export_number answer }
     ensures told_after { told.new ≡ export_after answer told.old }
 {
     match answer {
-        Exporting::Written(c, n) => {
+        Ok(
+            Exported {
+                counts: c,
+                bytes: n,
+            },
+        ) => {
             told[0] = c.tokens as u64;
             told[1] = c.actions as u64;
             told[2] = c.operands as u64;
@@ -31,7 +37,7 @@ pub fn tell_export(answer: Exporting, told: &mut [u64; 6]) -> u64
             told[5] = n as u64;
             0
         }
-        Exporting::Refused(r) => {
+        Err(r) => {
             told[0] = answers::refusal_place(r) as u64;
             answers::refusal_number(r)
         }

@@ -1,30 +1,25 @@
 -- What export answers, by what reading and the passes answered. Assumes nothing.
-use Rattle.std.specs.Prelude.{Ok, Err}
+use Rattle.std.specs.Prelude.{Result, Ok, Err}
 use mathlib.Core.Path.{◌≡◌, refl, ap, sym, subst, ◌∙◌}
-use mathlib.Core.List.{List, [], ◌∷◌, ◌++◌, append-nil}
+use mathlib.Core.List.{List, [], ◌++◌, append-nil}
 use Prim.Native.Nat.{ℕ, zero, suc, ◌*◌}
 use lib.ListN.{length, take, drop}
 use lib.Seq.{take_at}
 use Rattle.answers.specs.declared.Refusal.{Refusal}
-use Rattle.answers.specs.Answers.{accepted, refusal}
 use Rattle.reading.specs.Tables.{front, label_entry_word}
 use Rattle.handover.specs.declared.Counts.{Counts}
-use Rattle.handover.specs.Reading.{Reading, Tables, lent, places, filled, Accepts}
+use Rattle.handover.specs.Reading.{Reading, Tables, places, Accepts}
 use Rattle.as2_pcode.proofs.Handed.{read}
 use Rattle.held.specs.Held.{Holds, handed}
 use Rattle.held.proofs.Cut.{few-levels as few}
 use Rattle.held.proofs.Fills.{Fills, inside, tokens_fill, actions_fill, operands_fill, levels_fill, labels_fill, refilled}
 use Rattle.held.proofs.Hand.{held-read, held-refused, hands}
 use Rattle.action_records.specs.declared.Style.{Style}
-use Rattle.action_records.specs.Export.{exported}
-use Rattle.exporting.specs.declared.Passed.{Passed}
-use Rattle.exporting.specs.declared.Passed.TheVariants as P
 use Rattle.exporting.specs.Passes.{Held, Passes}
 use Rattle.export.specs.Asked.{Asked, unread}
 use Rattle.export.specs.Asked as A
-use Rattle.export.specs.Export.{Writes, Exports}
+use Rattle.export.specs.Export.{Exports}
 use Rattle.export.specs.Parts.{HeldBy, PassedBy}
-use Rattle.export.specs.declared.Exporting.TheVariants as E
 
 -- ---- the front of held tables holds the reading and nothing more
 
@@ -71,7 +66,7 @@ module _ {room : ℕ} {ps text : List ℕ} {old h : Tables ℕ} {c : Counts} (a 
 -- ---- the answers
 
 module _ (style : Style) (text : List ℕ) (h x : Tables ℕ) (r : Reading) (w : Holds (length x.tokens) (places x) text h r) (o : List ℕ) where
-  pub not_read : (f : Refusal) → r ≡ Err f → Exports style text x x o o (E.Refused f)
+  pub not_read : (f : Refusal) → r ≡ Err f → Exports style text x x o o (Err f)
   unfolding Exports
   not_read f e = (unread (held-refused w e), (refl, refl))
 
@@ -79,16 +74,16 @@ module _ (style : Style) (text : List ℕ) (h x : Tables ℕ) (r : Reading) (w :
     abbrev a : Accepts label_entry_word (length x.tokens) (places x) text w.before h c
     a = held-read w e
 
-    passed : (o' : List ℕ) (p : Passed) → PassedBy style c text h o o' p → Passes style (read a).tree o o' p
+    passed : (o' : List ℕ) (p : Result ℕ Refusal) → PassedBy style c text h o o' p → Passes style (read a).tree o o' p
     passed o' p t = t (parts_held a) (read a).tree (read a).fits
 
-    pub not_exported : (o' : List ℕ) (p : Passed) → PassedBy style c text h o o' p → (f : Refusal) → p ≡ P.Refused f → Exports style text x x o o' (E.Refused f)
+    pub not_exported : (o' : List ℕ) (p : Result ℕ Refusal) → PassedBy style c text h o o' p → (f : Refusal) → p ≡ Err f → Exports style text x x o o' (Err f)
     unfolding Exports
     not_exported o' p t f g =
         let q = subst (Passes style (read a).tree o o') g (passed o' p t) in
         (A.read a.lexed a.answer (record { tree = (read a).tree; fits = (read a).fits; told = q.0 }), (refl, q.1))
 
-    pub exported-all : (o' : List ℕ) (p : Passed) → PassedBy style c text h o o' p → (n : ℕ) → p ≡ P.Written n → (y : Tables ℕ) → y ≡ handed c h x → Exports style text x y o o' (E.Written c n)
+    pub exported-all : (o' : List ℕ) (p : Result ℕ Refusal) → PassedBy style c text h o o' p → (n : ℕ) → p ≡ Ok n → (y : Tables ℕ) → y ≡ handed c h x → Exports style text x y o o' (Ok (record { counts = c; bytes = n }))
     unfolding Exports
     exported-all o' p t n g y q =
         let b = subst (Passes style (read a).tree o o') g (passed o' p t) in

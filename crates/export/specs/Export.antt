@@ -1,6 +1,7 @@
 -- What export answers, and what the lent tables and the output hold then: document 02, §2. A refusal changes no table and no output; on
 -- acceptance the tables are filled as by `read`, and the bytes stand in front of the output.
-use Rattle.std.specs.Prelude.{◌≡◌, List, ℕ, length}
+use Rattle.std.specs.Prelude.{◌≡◌, List, Result, Ok, Err, ℕ, length}
+use Rattle.answers.specs.declared.Refusal.{Refusal}
 use Rattle.answers.specs.Answers.{accepted, refusal}
 use Rattle.reading.specs.Tables.{front, label_entry_word}
 use Rattle.handover.specs.declared.Counts.{Counts}
@@ -8,8 +9,7 @@ use Rattle.handover.specs.Reading.{Tables, places, Accepts}
 use Rattle.action_records.specs.declared.Style.{Style}
 use Rattle.action_records.specs.Export.{exported}
 use Rattle.export.specs.Asked.{Asked}
-use Rattle.export.specs.declared.Exporting.{Exporting}
-use Rattle.export.specs.declared.Exporting.TheVariants as E
+use Rattle.export.specs.declared.Exported.{Exported}
 
 -- tables x and output o, which are then y and o'
 pub record Writes (style : Style) (text : List ℕ) (x y : Tables ℕ) (o o' : List ℕ) (c : Counts) (n : ℕ) : Type 0 where
@@ -19,6 +19,6 @@ pub record Writes (style : Style) (text : List ℕ) (x y : Tables ℕ) (o o' : L
   pub count : n ≡ length bytes
   pub output : o' ≡ front bytes o
 
-unfoldable pub Exports : Style → List ℕ → (x y : Tables ℕ) → (o o' : List ℕ) → Exporting → Type 0
-Exports style text x y o o' (E.Written c n) = Writes style text x y o o' c n
-Exports style text x y o o' (E.Refused r) = Asked (exported style (length o)) x text (refusal r) × ((y ≡ x) × (o' ≡ o))
+unfoldable pub Exports : Style → List ℕ → (x y : Tables ℕ) → (o o' : List ℕ) → Result Exported Refusal → Type 0
+Exports style text x y o o' (Ok e) = Writes style text x y o o' e.counts e.bytes
+Exports style text x y o o' (Err r) = Asked (exported style (length o)) x text (refusal r) × ((y ≡ x) × (o' ≡ o))

@@ -1,304 +1,118 @@
 // Export: the movie's own bytes of a text (document 02, §2).
 #![tactic(auto)]
 
-ghost use Rattle.std.specs.Prelude.{◌≡◌, ◌≤◌, length};
-ghost use Rattle.handover.specs.Reading.{places, lent};
-ghost use Rattle.held.specs.Held.{Ample, Holds};
+ghost use Rattle.std.specs.Prelude.{◌/◌, ◌≤◌, length};
+ghost use Rattle.handover.specs.Reading.{held_in, SameSlices};
+ghost use Rattle.held.specs.Held.{Ample, AmpleTokens, AmpleEntries};
 ghost use Rattle.export.specs.Export.{Exports};
 ghost use Rattle.export.specs.Parts.{HeldBy, PassedBy};
 
 use action_records::Style;
 use answers::Refusal;
-use as2_pcode::Counts;
+use as2_pcode::{Counts, Tables};
 use export_scratch::export_reading;
-use exporting::Passed;
 use held::{hand_held, read_held};
+use level_trees::Source;
 
 // The counts of reading, and how many bytes were written.
 #[derive(Clone, Copy)]
-pub enum Exporting {
-    Written(Counts, usize),
-    Refused(Refusal),
+pub struct Exported {
+    pub counts: Counts,
+    pub bytes: usize,
 }
 
 // The passes over the entries that held tables hold.
 fn pass_held(
     text: &[u8],
     c: Counts,
-    held_tokens: &[u64],
-    held_actions: &[u64],
-    held_operands: &[u64],
-    held_levels: &[u64],
-    held_labels: &[u64],
+    held: &Tables,
     style: Style,
     out: &mut [u8],
-) -> Passed
-    requires { HeldBy c text.now (lent held_tokens.now held_actions.now held_operands.now held_levels.now held_labels.now) }
-    ensures { PassedBy style c text.now (lent held_tokens.now held_actions.now held_operands.now held_levels.now held_labels.now) out.old out.new result }
+) -> Result<usize, Refusal>
+    requires { HeldBy c text.now (held_in held.now) }
+    ensures { PassedBy style c text.now (held_in held.now) out.old out.new result }
 {
-    export_reading(
+    let source = Source {
         text,
-        &held_tokens[..c.tokens],
-        &held_actions[..c.actions],
-        &held_operands[..c.operands],
-        &held_levels[..2 * c.levels],
-        &held_labels[..c.labels],
-        style,
-        out,
-    )
-}
-
-fn finish(
-    text: &[u8],
-    reading: Result<Counts, Refusal>,
-    held_tokens: &[u64],
-    held_actions: &[u64],
-    held_operands: &[u64],
-    held_levels: &[u64],
-    held_labels: &[u64],
-    tokens: &mut [u64],
-    actions: &mut [u64],
-    operands: &mut [u64],
-    levels: &mut [u64],
-    labels: &mut [u64],
-    style: Style,
-    out: &mut [u8],
-) -> Exporting
-    requires { Holds (length tokens.old) (places (lent tokens.old actions.old operands.old levels.old labels.old)) text.now (lent held_tokens.now held_actions.now held_operands.now held_levels.now held_labels.now) reading }
-    ensures { Exports style text.now (lent tokens.old actions.old operands.old levels.old labels.old) (lent tokens.new actions.new operands.new levels.new labels.new) out.old out.new result }
-{
-    match reading {
-        Err(r) => Exporting::Refused(r),
-        Ok(c) => {
-            let passed = pass_held(
-                text,
-                c,
-                held_tokens,
-                held_actions,
-                held_operands,
-                held_levels,
-                held_labels,
-                style,
-                out,
-            );
-            match passed {
-                Passed::Refused(r) => Exporting::Refused(r),
-                Passed::Written(n) => {
-                    hand_held(
-                        c,
-                        held_tokens,
-                        held_actions,
-                        held_operands,
-                        held_levels,
-                        held_labels,
-                        tokens,
-                        actions,
-                        operands,
-                        levels,
-                        labels,
-                    );
-                    Exporting::Written(c, n)
-                }
-            }
-        }
-    }
+        tokens: &held.tokens[..c.tokens],
+        actions: &held.actions[..c.actions],
+        operands: &held.operands[..c.operands],
+        levels: &held.levels[..2 * c.levels],
+        labels: &held.labels[..c.labels],
+    };
+    export_reading(source, style, out)
 }
 
 // Reads a text into held tables, and exports it from there.
 fn export_held(
     text: &[u8],
-    held_tokens: &mut [u64],
-    held_actions: &mut [u64],
-    held_operands: &mut [u64],
-    held_levels: &mut [u64],
-    held_labels: &mut [u64],
-    tokens: &mut [u64],
-    actions: &mut [u64],
-    operands: &mut [u64],
-    levels: &mut [u64],
-    labels: &mut [u64],
+    held: &mut Tables,
+    tables: &mut Tables,
     style: Style,
     out: &mut [u8],
-) -> Exporting
-    requires { Ample (length text.now) (lent held_tokens.old held_actions.old held_operands.old held_levels.old held_labels.old) }
-    ensures { Exports style text.now (lent tokens.old actions.old operands.old levels.old labels.old) (lent tokens.new actions.new operands.new levels.new labels.new) out.old out.new result }
+) -> Result<Exported, Refusal>
+    requires { Ample (length text.now) (held_in held.old) }
+    ensures exports { Exports style text.now (held_in tables.old) (held_in tables.new) out.old out.new result }
+    ensures same_slices { SameSlices tables.old tables.new }
 {
-    let reading = read_held(
-        text,
-        tokens.len(),
-        actions.len(),
-        operands.len(),
-        levels.len() / 2,
-        labels.len(),
-        held_tokens,
-        held_actions,
-        held_operands,
-        held_levels,
-        held_labels,
-    );
-    finish(
-        text,
-        reading,
-        held_tokens,
-        held_actions,
-        held_operands,
-        held_levels,
-        held_labels,
-        tokens,
-        actions,
-        operands,
-        levels,
-        labels,
-        style,
-        out,
-    )
+    let places = Counts {
+        tokens: tables.tokens.len(),
+        actions: tables.actions.len(),
+        operands: tables.operands.len(),
+        levels: tables.levels.len() / 2,
+        labels: tables.labels.len(),
+    };
+    let counts = read_held(text, places, held)?;
+    let bytes = pass_held(text, counts, held, style, out)?;
+    hand_held(counts, held, tables);
+    Ok(Exported { counts, bytes })
 }
 
-// How many tokens were read of a text that is exported.
-fn tokens_of(answer: Exporting) -> usize {
-    match answer {
-        Exporting::Written(c, _) => c.tokens,
-        Exporting::Refused(_) => 0,
-    }
-}
-
-// ---- held tables by the length of the text. A function that calls itself has a frame of its own, which a small text does not pay for
-// (docs/DECISIONS.md, 67). Nothing leads to such a call: no slice is so long.
-
-const LONGEST: usize = 9223372036854775807;
-
-fn export_1024(
+// Over held tables of T tokens, of E actions, operands and labels each, and of L words for levels. Not inlined, since a small text is
+// not to pay for the frame of a large one (docs/DECISIONS.md, 67).
+#[inline(never)]
+fn export_over<const T: usize, const E: usize, const L: usize>(
     text: &[u8],
-    tokens: &mut [u64],
-    actions: &mut [u64],
-    operands: &mut [u64],
-    levels: &mut [u64],
-    labels: &mut [u64],
+    tables: &mut Tables,
     style: Style,
     out: &mut [u8],
-) -> Exporting
-    requires { length text.now ≤ 1024 }
-    ensures { Exports style text.now (lent tokens.old actions.old operands.old levels.old labels.old) (lent tokens.new actions.new operands.new levels.new labels.new) out.old out.new result }
+) -> Result<Exported, Refusal>
+    requires sizes { (T ≤ 65536) × ((E ≤ 65536) × (L ≤ 65538)) }
+    requires ample { AmpleTokens (length text.now) T × (AmpleEntries (length text.now) E × AmpleEntries (length text.now) (L / 2)) }
+    ensures exports { Exports style text.now (held_in tables.old) (held_in tables.new) out.old out.new result }
+    ensures same_slices { SameSlices tables.old tables.new }
 {
-    let mut held_tokens = [0u64; 1024];
-    let mut held_actions = [0u64; 513];
-    let mut held_operands = [0u64; 513];
-    let mut held_levels = [0u64; 1026];
-    let mut held_labels = [0u64; 513];
-    export_held(
-        text,
-        &mut held_tokens,
-        &mut held_actions,
-        &mut held_operands,
-        &mut held_levels,
-        &mut held_labels,
-        tokens,
-        actions,
-        operands,
-        levels,
-        labels,
-        style,
-        out,
-    )
-}
-
-fn export_4096(
-    text: &[u8],
-    tokens: &mut [u64],
-    actions: &mut [u64],
-    operands: &mut [u64],
-    levels: &mut [u64],
-    labels: &mut [u64],
-    style: Style,
-    out: &mut [u8],
-) -> Exporting
-    requires { length text.now ≤ 4096 }
-    ensures { Exports style text.now (lent tokens.old actions.old operands.old levels.old labels.old) (lent tokens.new actions.new operands.new levels.new labels.new) out.old out.new result }
-{
-    if LONGEST < text.len() {
-        let answer = export_4096(text, tokens, actions, operands, levels, labels, style, out);
-        return Exporting::Refused(Refusal::TableShort(tokens_of(answer)));
-    }
-    let mut held_tokens = [0u64; 4096];
-    let mut held_actions = [0u64; 2049];
-    let mut held_operands = [0u64; 2049];
-    let mut held_levels = [0u64; 4098];
-    let mut held_labels = [0u64; 2049];
-    export_held(
-        text,
-        &mut held_tokens,
-        &mut held_actions,
-        &mut held_operands,
-        &mut held_levels,
-        &mut held_labels,
-        tokens,
-        actions,
-        operands,
-        levels,
-        labels,
-        style,
-        out,
-    )
-}
-
-fn export_65536(
-    text: &[u8],
-    tokens: &mut [u64],
-    actions: &mut [u64],
-    operands: &mut [u64],
-    levels: &mut [u64],
-    labels: &mut [u64],
-    style: Style,
-    out: &mut [u8],
-) -> Exporting
-    requires { length text.now ≤ 9223372036854775807 }
-    ensures { Exports style text.now (lent tokens.old actions.old operands.old levels.old labels.old) (lent tokens.new actions.new operands.new levels.new labels.new) out.old out.new result }
-{
-    if LONGEST < text.len() {
-        let answer = export_65536(text, tokens, actions, operands, levels, labels, style, out);
-        return Exporting::Refused(Refusal::TableShort(tokens_of(answer)));
-    }
-    let mut held_tokens = [0u64; 65536];
-    let mut held_actions = [0u64; 32769];
-    let mut held_operands = [0u64; 32769];
-    let mut held_levels = [0u64; 65538];
-    let mut held_labels = [0u64; 32769];
-    export_held(
-        text,
-        &mut held_tokens,
-        &mut held_actions,
-        &mut held_operands,
-        &mut held_levels,
-        &mut held_labels,
-        tokens,
-        actions,
-        operands,
-        levels,
-        labels,
-        style,
-        out,
-    )
+    let mut tokens = [0u64; T];
+    let mut actions = [0u64; E];
+    let mut operands = [0u64; E];
+    let mut levels = [0u64; L];
+    let mut labels = [0u64; E];
+    let mut held = Tables {
+        tokens: &mut tokens,
+        actions: &mut actions,
+        operands: &mut operands,
+        levels: &mut levels,
+        labels: &mut labels,
+    };
+    export_held(text, &mut held, tables, style, out)
 }
 
 // The bytes of a text's movie, at the front of the output, with the lent tables filled as by `read`; or one of reading's refusals, then
 // 10 and 11 with the action, then 12 with the length needed, which change nothing.
 pub fn export(
     text: &[u8],
-    tokens: &mut [u64],
-    actions: &mut [u64],
-    operands: &mut [u64],
-    levels: &mut [u64],
-    labels: &mut [u64],
+    tables: &mut Tables,
     style: Style,
     out: &mut [u8],
-) -> Exporting
-    ensures { Exports style text.now (lent tokens.old actions.old operands.old levels.old labels.old) (lent tokens.new actions.new operands.new levels.new labels.new) out.old out.new result }
+) -> Result<Exported, Refusal>
+    ensures exports { Exports style text.now (held_in tables.old) (held_in tables.new) out.old out.new result }
+    ensures same_slices { SameSlices tables.old tables.new }
 {
     if text.len() <= 1024 {
-        return export_1024(text, tokens, actions, operands, levels, labels, style, out);
+        return export_over::<1024, 513, 1026>(text, tables, style, out);
     }
     if text.len() <= 4096 {
-        return export_4096(text, tokens, actions, operands, levels, labels, style, out);
+        return export_over::<4096, 2049, 4098>(text, tables, style, out);
     }
-    export_65536(text, tokens, actions, operands, levels, labels, style, out)
+    export_over::<65536, 32769, 65538>(text, tables, style, out)
 }

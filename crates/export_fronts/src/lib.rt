@@ -1,41 +1,45 @@
 // Export as the programs that try it call it: into the front of each table and of the output. It promises nothing, so that a
 // check of such a program does not go through what `export` promises. With it what those programs look at afterwards: marked
-// tables and outputs, and whether two hold the same.
+// tables and outputs.
 #![tactic(auto)]
 
 use action_records::Style;
-use as2_pcode::Counts;
-use export::Exporting;
+use answers::Refusal;
+use as2_pcode::{Counts, Tables};
+use export::Exported;
 
-// A table, or an output, that is shorter is lent whole.
-pub fn export_fronts(
-    text: &[u8],
-    lent: Counts,
-    room: usize,
-    tokens: &mut [u64],
-    actions: &mut [u64],
-    operands: &mut [u64],
-    levels: &mut [u64],
-    labels: &mut [u64],
-    style: Style,
-    out: &mut [u8],
-) -> Exporting {
-    let a = lent.tokens.min(tokens.len());
-    let b = lent.actions.min(actions.len());
-    let c = lent.operands.min(operands.len());
-    let d = lent.levels.min(levels.len());
-    let e = lent.labels.min(labels.len());
-    let n = room.min(out.len());
-    export::export(
-        text,
-        &mut tokens[..a],
-        &mut actions[..b],
-        &mut operands[..c],
-        &mut levels[..d],
-        &mut labels[..e],
-        style,
-        &mut out[..n],
-    )
+// What is asked: how a text is exported, and how many places of the tables and of the output are lent.
+#[derive(Clone, Copy)]
+pub struct Asked<'a> {
+    pub text: &'a [u8],
+    pub lent: Counts,
+    pub room: usize,
+    pub style: Style,
+}
+
+// As many words of each table are lent as is asked, of levels too; a table, or an output, that is shorter is lent whole.
+pub fn export_fronts(asked: Asked, tables: Tables, out: &mut [u8]) -> Result<Exported, Refusal> {
+    let Tables {
+        tokens,
+        actions,
+        operands,
+        levels,
+        labels,
+    } = tables;
+    let a = asked.lent.tokens.min(tokens.len());
+    let b = asked.lent.actions.min(actions.len());
+    let c = asked.lent.operands.min(operands.len());
+    let d = asked.lent.levels.min(levels.len());
+    let e = asked.lent.labels.min(labels.len());
+    let n = asked.room.min(out.len());
+    let mut fronts = Tables {
+        tokens: &mut tokens[..a],
+        actions: &mut actions[..b],
+        operands: &mut operands[..c],
+        levels: &mut levels[..d],
+        labels: &mut labels[..e],
+    };
+    export::export(asked.text, &mut fronts, asked.style, &mut out[..n])
 }
 
 // The front of some bytes; all, where they are fewer.
@@ -47,18 +51,18 @@ pub fn front(bytes: &[u8], n: usize) -> &[u8] {
 // ---- answers as two numbers
 
 // A refusal's number; 0 where bytes were written.
-pub fn answer_number(told: Exporting) -> u64 {
+pub fn answer_number(told: Result<Exported, Refusal>) -> u64 {
     match told {
-        Exporting::Written(_, _) => 0,
-        Exporting::Refused(r) => answers::refusal_number(r),
+        Ok(_) => 0,
+        Err(r) => answers::refusal_number(r),
     }
 }
 
 // A refusal's place, or how many bytes were written.
-pub fn answer_place(told: Exporting) -> usize {
+pub fn answer_place(told: Result<Exported, Refusal>) -> usize {
     match told {
-        Exporting::Written(_, n) => n,
-        Exporting::Refused(r) => answers::refusal_place(r),
+        Ok(exported) => exported.bytes,
+        Err(r) => answers::refusal_place(r),
     }
 }
 
@@ -70,73 +74,45 @@ pub const MARK: u64 = 0xA5A5_A5A5_A5A5_A5A5;
 pub const MARK_BYTE: u8 = 0xA5;
 
 pub fn is_marked(table: &[u64]) -> bool {
-    for i in 0..table.len() {
-        if table[i] != MARK {
-            return false;
-        }
-    }
-    true
+    table.iter().all(|w| *w == MARK)
 }
 
 // Whether an output holds the mark from a place on.
 pub fn is_marked_from(out: &[u8], from: usize) -> bool {
-    for i in from..out.len() {
-        if out[i] != MARK_BYTE {
+    for b in out.iter().skip(from) {
+        if *b != MARK_BYTE {
             return false;
         }
     }
     true
+}
+
+// What a call left: the tables and the output.
+#[derive(Clone, Copy)]
+pub struct Left<'a> {
+    pub tokens: &'a [u64],
+    pub actions: &'a [u64],
+    pub operands: &'a [u64],
+    pub levels: &'a [u64],
+    pub labels: &'a [u64],
+    pub out: &'a [u8],
 }
 
 // Whether a call changed nothing: every table and the output hold the mark all over.
-pub fn are_marked(
-    tokens: &[u64],
-    actions: &[u64],
-    operands: &[u64],
-    levels: &[u64],
-    labels: &[u64],
-    out: &[u8],
-) -> bool {
-    if !is_marked(tokens) {
-        return false;
-    }
-    if !is_marked(actions) {
-        return false;
-    }
-    if !is_marked(operands) {
-        return false;
-    }
-    if !is_marked(levels) {
-        return false;
-    }
-    if !is_marked(labels) {
-        return false;
-    }
-    is_marked_from(out, 0)
+pub fn are_marked(left: Left) -> bool {
+    is_marked(left.tokens)
+        && is_marked(left.actions)
+        && is_marked(left.operands)
+        && is_marked(left.levels)
+        && is_marked(left.labels)
+        && is_marked_from(left.out, 0)
 }
 
-// ---- what two calls left
-
-pub fn same_words(a: &[u64], b: &[u64]) -> bool {
-    if a.len() != b.len() {
-        return false;
-    }
-    for i in 0..a.len() {
-        if a[i] != b[i] {
-            return false;
-        }
-    }
-    true
-}
-
-pub fn same_bytes(a: &[u8], b: &[u8]) -> bool {
-    if a.len() != b.len() {
-        return false;
-    }
-    for i in 0..a.len() {
-        if a[i] != b[i] {
-            return false;
-        }
-    }
-    true
+// Whether two calls filled the tables alike.
+pub fn same_tables(a: Left, b: Left) -> bool {
+    a.tokens == b.tokens
+        && a.actions == b.actions
+        && a.operands == b.operands
+        && a.levels == b.levels
+        && a.labels == b.labels
 }

@@ -4,9 +4,10 @@
 #![tactic(auto)]
 
 use action_records::Style;
-use as2_pcode::Counts;
-use export::Exporting;
-use export_fronts::{MARK, MARK_BYTE, are_marked, export_fronts, front};
+use answers::Refusal;
+use as2_pcode::{Counts, Tables};
+use export::Exported;
+use export_fronts::{Asked, Left, MARK, MARK_BYTE, are_marked, export_fronts, front};
 use printing::{print_number, print_refusal, print_text};
 
 // ---- a text is built
@@ -22,15 +23,15 @@ fn put_byte(text: &mut [u8; 65537], at: usize, b: u8) -> usize {
 
 fn put(text: &mut [u8; 65537], at: usize, piece: &[u8]) -> usize {
     let mut at = at;
-    for i in 0..piece.len() {
-        at = put_byte(text, at, piece[i]);
+    for b in piece {
+        at = put_byte(text, at, *b);
     }
     at
 }
 
 fn put_times(text: &mut [u8; 65537], at: usize, piece: &[u8], n: usize) -> usize {
     let mut at = at;
-    for i in 0..n {
+    for _ in 0..n {
         at = put(text, at, piece);
     }
     at
@@ -78,15 +79,15 @@ fn print_written(rt: HostRuntime, out: &[u8], n: usize, field: usize) {
     print_byte_at(rt, out, std::num::wrapping_add_usize(field, 1));
 }
 
-fn print_answer(rt: HostRuntime, told: Exporting, out: &[u8], field: usize) {
+fn print_answer(rt: HostRuntime, told: Result<Exported, Refusal>, out: &[u8], field: usize) {
     match told {
-        Exporting::Written(_, n) => print_written(rt, out, n, field),
-        Exporting::Refused(r) => print_refusal(rt, r),
+        Ok(exported) => print_written(rt, out, exported.bytes, field),
+        Err(r) => print_refusal(rt, r),
     }
 }
 
 // Whether anything was changed must be as the answer says: a refusal changes nothing.
-fn print_end(rt: HostRuntime, told: Exporting, unchanged: bool) {
+fn print_end(rt: HostRuntime, told: Result<Exported, Refusal>, unchanged: bool) {
     if unchanged == (export_fronts::answer_number(told) != 0) {
         print_text(rt, b"\n");
         return;
@@ -110,21 +111,30 @@ fn try_text(rt: HostRuntime, text: &[u8], room: usize, field: usize) {
     let mut levels = [MARK; 64];
     let mut labels = [MARK; 64];
     let mut out = [MARK_BYTE; 196608];
-    let told = export_fronts(
+    let asked = Asked {
         text,
-        LENT,
+        lent: LENT,
         room,
-        &mut tokens,
-        &mut actions,
-        &mut operands,
-        &mut levels,
-        &mut labels,
-        Style::AsPlayed,
-        &mut out,
-    );
+        style: Style::AsPlayed,
+    };
+    let tables = Tables {
+        tokens: &mut tokens,
+        actions: &mut actions,
+        operands: &mut operands,
+        levels: &mut levels,
+        labels: &mut labels,
+    };
+    let told = export_fronts(asked, tables, &mut out);
     print_answer(rt, told, &out, field);
-    let unchanged = are_marked(&tokens, &actions, &operands, &levels, &labels, &out);
-    print_end(rt, told, unchanged);
+    let left = Left {
+        tokens: &tokens,
+        actions: &actions,
+        operands: &operands,
+        levels: &levels,
+        labels: &labels,
+        out: &out,
+    };
+    print_end(rt, told, are_marked(left));
 }
 
 fn try_front(rt: HostRuntime, text: &[u8; 65537], n: usize, room: usize, field: usize) {

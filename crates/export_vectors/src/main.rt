@@ -11,9 +11,10 @@ ghost use Rattle.std.specs.Prelude.{◌≤◌};
 use action_records::Style;
 use answers::Refusal;
 use as2_pcode::{Counts, Tables};
-use export::Exporting;
+use export::Exported;
 use export_fronts::{
-    MARK, MARK_BYTE, answer_number, answer_place, are_marked, export_fronts, same_bytes, same_words,
+    Asked, Left, MARK, MARK_BYTE, answer_number, answer_place, are_marked, export_fronts,
+    same_tables,
 };
 use printing::{print_number, print_text};
 use records::Cursor;
@@ -65,10 +66,8 @@ fn hold_to(rt: HostRuntime, good: bool, what: &[u8], counts: &mut [u64; 23]) {
 // ---- a call of the list
 
 #[derive(Clone, Copy)]
-struct Call {
-    lent: Counts,
-    style: Style,
-    room: usize,
+struct Call<'a> {
+    asked: Asked<'a>,
     next: usize,
 }
 
@@ -96,7 +95,7 @@ fn places_at(c: &mut Cursor) -> usize
 }
 
 // A place of the level table is two words.
-fn call_at(list: &[u8], at: usize) -> Call {
+fn call_at<'a>(list: &[u8], at: usize, text: &'a [u8]) -> Call<'a> {
     let mut c = Cursor::new(list, at);
     let lent = Counts {
         tokens: places_at(&mut c),
@@ -107,211 +106,129 @@ fn call_at(list: &[u8], at: usize) -> Call {
     };
     let style = style_of(c.take().unwrap_or(0));
     let room = places_at(&mut c);
-    Call {
+    let asked = Asked {
+        text,
         lent,
-        style,
         room,
-        next: c.at,
-    }
+        style,
+    };
+    Call { asked, next: c.at }
 }
 
 // ---- an accepted text, again
 
-fn same_tables(
-    tokens: &[u64; 4096],
-    actions: &[u64; 4096],
-    operands: &[u64; 4096],
-    levels: &[u64; 8192],
-    labels: &[u64; 4096],
-    other_tokens: &[u64; 4096],
-    other_actions: &[u64; 4096],
-    other_operands: &[u64; 4096],
-    other_levels: &[u64; 8192],
-    other_labels: &[u64; 4096],
-) -> bool {
-    if !same_words(tokens, other_tokens) {
-        return false;
-    }
-    if !same_words(actions, other_actions) {
-        return false;
-    }
-    if !same_words(operands, other_operands) {
-        return false;
-    }
-    if !same_words(levels, other_levels) {
-        return false;
-    }
-    same_words(labels, other_labels)
-}
-
 fn same_counts(c: Counts, reading: Result<Counts, Refusal>) -> bool {
     match reading {
         Ok(n) => {
-            if n.tokens != c.tokens {
-                return false;
-            }
-            if n.actions != c.actions {
-                return false;
-            }
-            if n.operands != c.operands {
-                return false;
-            }
-            if n.levels != c.levels {
-                return false;
-            }
-            n.labels == c.labels
+            n.tokens == c.tokens
+                && n.actions == c.actions
+                && n.operands == c.operands
+                && n.levels == c.levels
+                && n.labels == c.labels
         }
         Err(_) => false,
     }
 }
 
 // Whether `read` counts and fills as export did.
-fn is_as_read(
-    text: &[u8],
-    lent: Counts,
-    c: Counts,
-    tokens: &[u64; 4096],
-    actions: &[u64; 4096],
-    operands: &[u64; 4096],
-    levels: &[u64; 8192],
-    labels: &[u64; 4096],
-) -> bool {
-    let mut read_tokens = [MARK; 4096];
-    let mut read_actions = [MARK; 4096];
-    let mut read_operands = [MARK; 4096];
-    let mut read_levels = [MARK; 8192];
-    let mut read_labels = [MARK; 4096];
+fn is_as_read(asked: Asked, c: Counts, left: Left) -> bool {
+    let mut tokens = [MARK; 4096];
+    let mut actions = [MARK; 4096];
+    let mut operands = [MARK; 4096];
+    let mut levels = [MARK; 8192];
+    let mut labels = [MARK; 4096];
     let tables = Tables {
-        tokens: &mut read_tokens,
-        actions: &mut read_actions,
-        operands: &mut read_operands,
-        levels: &mut read_levels,
-        labels: &mut read_labels,
+        tokens: &mut tokens,
+        actions: &mut actions,
+        operands: &mut operands,
+        levels: &mut levels,
+        labels: &mut labels,
     };
-    let reading = fronts::read_fronts(text, lent, tables);
-    if !same_counts(c, reading) {
-        return false;
-    }
-    same_tables(
-        tokens,
-        actions,
-        operands,
-        levels,
-        labels,
-        &read_tokens,
-        &read_actions,
-        &read_operands,
-        &read_levels,
-        &read_labels,
-    )
+    let reading = fronts::read_fronts(asked.text, asked.lent, tables);
+    let read = Left {
+        tokens: &tokens,
+        actions: &actions,
+        operands: &operands,
+        levels: &levels,
+        labels: &labels,
+        out: &[],
+    };
+    same_counts(c, reading) && same_tables(left, read)
 }
 
-// Whether export into other places leaves the same entries and bytes.
-fn is_written_again(
-    text: &[u8],
-    lent: Counts,
-    room: usize,
-    style: Style,
-    n: usize,
-    tokens: &[u64; 4096],
-    actions: &[u64; 4096],
-    operands: &[u64; 4096],
-    levels: &[u64; 8192],
-    labels: &[u64; 4096],
-    out: &[u8; 4096],
-) -> bool {
-    let mut new_tokens = [MARK; 4096];
-    let mut new_actions = [MARK; 4096];
-    let mut new_operands = [MARK; 4096];
-    let mut new_levels = [MARK; 8192];
-    let mut new_labels = [MARK; 4096];
-    let mut new_out = [MARK_BYTE; 4096];
-    let told = export_fronts(
-        text,
-        lent,
-        room,
-        &mut new_tokens,
-        &mut new_actions,
-        &mut new_operands,
-        &mut new_levels,
-        &mut new_labels,
-        style,
-        &mut new_out,
-    );
-    if answer_number(told) != 0 {
-        return false;
-    }
-    if answer_place(told) != n {
-        return false;
-    }
-    if !same_bytes(out, &new_out) {
-        return false;
-    }
-    same_tables(
-        tokens,
-        actions,
-        operands,
-        levels,
-        labels,
-        &new_tokens,
-        &new_actions,
-        &new_operands,
-        &new_levels,
-        &new_labels,
-    )
-}
-
-// Whether export into fewer places is refused so, and changes nothing.
-fn is_refused(
-    text: &[u8],
-    lent: Counts,
-    room: usize,
-    style: Style,
-    number: u64,
-    place: usize,
-) -> bool {
+// Whether export into other places leaves the same entries and n bytes.
+fn is_written_again(asked: Asked, n: usize, left: Left) -> bool {
     let mut tokens = [MARK; 4096];
     let mut actions = [MARK; 4096];
     let mut operands = [MARK; 4096];
     let mut levels = [MARK; 8192];
     let mut labels = [MARK; 4096];
     let mut out = [MARK_BYTE; 4096];
-    let told = export_fronts(
-        text,
-        lent,
-        room,
-        &mut tokens,
-        &mut actions,
-        &mut operands,
-        &mut levels,
-        &mut labels,
-        style,
-        &mut out,
-    );
-    if answer_number(told) != number {
-        return false;
-    }
-    if answer_place(told) != place {
-        return false;
-    }
-    are_marked(&tokens, &actions, &operands, &levels, &labels, &out)
+    let tables = Tables {
+        tokens: &mut tokens,
+        actions: &mut actions,
+        operands: &mut operands,
+        levels: &mut levels,
+        labels: &mut labels,
+    };
+    let told = export_fronts(asked, tables, &mut out);
+    let again = Left {
+        tokens: &tokens,
+        actions: &actions,
+        operands: &operands,
+        levels: &levels,
+        labels: &labels,
+        out: &out,
+    };
+    answer_number(told) == 0
+        && answer_place(told) == n
+        && left.out == again.out
+        && same_tables(left, again)
+}
+
+// Whether export is refused so, and changes nothing.
+fn is_refused(asked: Asked, number: u64, place: usize) -> bool {
+    let mut tokens = [MARK; 4096];
+    let mut actions = [MARK; 4096];
+    let mut operands = [MARK; 4096];
+    let mut levels = [MARK; 8192];
+    let mut labels = [MARK; 4096];
+    let mut out = [MARK_BYTE; 4096];
+    let tables = Tables {
+        tokens: &mut tokens,
+        actions: &mut actions,
+        operands: &mut operands,
+        levels: &mut levels,
+        labels: &mut labels,
+    };
+    let told = export_fronts(asked, tables, &mut out);
+    let left = Left {
+        tokens: &tokens,
+        actions: &actions,
+        operands: &operands,
+        levels: &levels,
+        labels: &labels,
+        out: &out,
+    };
+    answer_number(told) == number && answer_place(told) == place && are_marked(left)
 }
 
 // ---- one short
 
-fn hold_short_output(
-    rt: HostRuntime,
-    text: &[u8],
-    lent: Counts,
-    style: Style,
-    n: usize,
-    counts: &mut [u64; 23],
-) {
+fn hold_short_output(rt: HostRuntime, asked: Asked, n: usize, counts: &mut [u64; 23]) {
     if n == 0 {
         return;
     }
-    let refused = is_refused(text, lent, n - 1, style, 12, n);
-    hold_to(rt, refused, b"output one byte short", counts);
+    let short = Asked {
+        room: n - 1,
+        ..asked
+    };
+    hold_to(
+        rt,
+        is_refused(short, 12, n),
+        b"output one byte short",
+        counts,
+    );
     add(counts, SHORT_OUTPUTS, 1);
 }
 
@@ -326,12 +243,7 @@ fn full_lent(c: Counts) -> Counts {
 }
 
 fn less_if(yes: bool, n: usize) -> usize {
-    if yes {
-        if 0 < n {
-            return n - 1;
-        }
-    }
-    n
+    if yes && 0 < n { n - 1 } else { n }
 }
 
 // Table 0 is that of tokens. A word less is a place less, of levels too.
@@ -356,52 +268,31 @@ fn words_in(lent: Counts, table: usize) -> usize {
 }
 
 // A table that no entry is for cannot be short.
-fn hold_short_table(
-    rt: HostRuntime,
-    text: &[u8],
-    full: Counts,
-    room: usize,
-    style: Style,
-    table: usize,
-    counts: &mut [u64; 23],
-) {
-    if words_in(full, table) == 0 {
+fn hold_short_table(rt: HostRuntime, full: Asked, table: usize, counts: &mut [u64; 23]) {
+    if words_in(full.lent, table) == 0 {
         return;
     }
-    let short = short_lent(full, table);
-    let refused = is_short(text, short, room, style, table, full.tokens);
+    let short = Asked {
+        lent: short_lent(full.lent, table),
+        ..full
+    };
+    let refused = is_short(short, table, full.lent.tokens);
     hold_to(rt, refused, b"table one place short", counts);
     add(counts, SHORT_TABLES, 1);
 }
 
 // 5 with the number of tokens, or 8 with the table, of which actions are 0.
-fn is_short(
-    text: &[u8],
-    short: Counts,
-    room: usize,
-    style: Style,
-    table: usize,
-    tokens: usize,
-) -> bool {
+fn is_short(short: Asked, table: usize, tokens: usize) -> bool {
     if table == 0 {
-        return is_refused(text, short, room, style, 5, tokens);
+        return is_refused(short, 5, tokens);
     }
-    is_refused(text, short, room, style, 8, table - 1)
+    is_refused(short, 8, table - 1)
 }
 
-fn hold_short_tables(
-    rt: HostRuntime,
-    text: &[u8],
-    full: Counts,
-    room: usize,
-    style: Style,
-    counts: &mut [u64; 23],
-) {
-    hold_short_table(rt, text, full, room, style, 0, counts);
-    hold_short_table(rt, text, full, room, style, 1, counts);
-    hold_short_table(rt, text, full, room, style, 2, counts);
-    hold_short_table(rt, text, full, room, style, 3, counts);
-    hold_short_table(rt, text, full, room, style, 4, counts);
+fn hold_short_tables(rt: HostRuntime, full: Asked, counts: &mut [u64; 23]) {
+    for table in 0..5 {
+        hold_short_table(rt, full, table, counts);
+    }
 }
 
 // ---- a text
@@ -409,72 +300,51 @@ fn hold_short_tables(
 // Tables and bytes that export wrote, held to `read` and to export into other places.
 fn hold_written(
     rt: HostRuntime,
-    text: &[u8],
-    call: Call,
-    c: Counts,
-    n: usize,
-    tokens: &[u64; 4096],
-    actions: &[u64; 4096],
-    operands: &[u64; 4096],
-    levels: &[u64; 8192],
-    labels: &[u64; 4096],
-    out: &[u8; 4096],
+    asked: Asked,
+    exported: Exported,
+    left: Left,
     counts: &mut [u64; 23],
 ) {
-    let lent = call.lent;
-    let style = call.style;
-    let room = call.room;
-    let full = full_lent(c);
-    let kept = export_fronts::is_marked_from(out, n);
+    let n = exported.bytes;
+    let full = Asked {
+        lent: full_lent(exported.counts),
+        ..asked
+    };
+    let kept = export_fronts::is_marked_from(left.out, n);
     hold_to(rt, kept, b"output behind the bytes", counts);
-    let read = is_as_read(text, lent, c, tokens, actions, operands, levels, labels);
+    let read = is_as_read(asked, exported.counts, left);
     hold_to(rt, read, b"tables are not as read", counts);
-    let again = is_written_again(
-        text, lent, n, style, n, tokens, actions, operands, levels, labels, out,
-    );
+    let again = is_written_again(Asked { room: n, ..asked }, n, left);
     hold_to(rt, again, b"output exactly full", counts);
     add(counts, FULL_OUTPUTS, 1);
-    let again = is_written_again(
-        text, full, room, style, n, tokens, actions, operands, levels, labels, out,
-    );
+    let again = is_written_again(full, n, left);
     hold_to(rt, again, b"tables exactly full", counts);
     add(counts, FULL_TABLES, 1);
-    hold_short_output(rt, text, lent, style, n, counts);
-    hold_short_tables(rt, text, full, room, style, counts);
+    hold_short_output(rt, asked, n, counts);
+    hold_short_tables(rt, full, counts);
     add(counts, BYTES, n as u64);
 }
 
 fn hold_told(
     rt: HostRuntime,
-    text: &[u8],
-    call: Call,
-    told: Exporting,
-    tokens: &[u64; 4096],
-    actions: &[u64; 4096],
-    operands: &[u64; 4096],
-    levels: &[u64; 8192],
-    labels: &[u64; 4096],
-    out: &[u8; 4096],
+    asked: Asked,
+    told: Result<Exported, Refusal>,
+    left: Left,
     counts: &mut [u64; 23],
 ) {
     match told {
-        Exporting::Written(c, n) => hold_written(
-            rt, text, call, c, n, tokens, actions, operands, levels, labels, out, counts,
-        ),
-        Exporting::Refused(_) => {
-            let kept = are_marked(tokens, actions, operands, levels, labels, out);
-            hold_to(rt, kept, b"a refusal changed something", counts);
-        }
+        Ok(exported) => hold_written(rt, asked, exported, left, counts),
+        Err(_) => hold_to(rt, are_marked(left), b"a refusal changed something", counts),
     }
 }
 
-fn expect_answer(c: &mut Cursor, told: Exporting, out: &[u8; 4096]) {
+fn expect_answer(c: &mut Cursor, told: Result<Exported, Refusal>, out: &[u8]) {
     match told {
-        Exporting::Written(_, n) => {
+        Ok(exported) => {
             c.expect(0);
-            c.expect_bytes(export_fronts::front(out, n));
+            c.expect_bytes(export_fronts::front(out, exported.bytes));
         }
-        Exporting::Refused(r) => entry_records::expect_refusal(c, r),
+        Err(r) => entry_records::expect_refusal(c, r),
     }
 }
 
@@ -484,8 +354,8 @@ fn hold_answer(
     list: &[u8],
     at: usize,
     next: usize,
-    told: Exporting,
-    out: &[u8; 4096],
+    told: Result<Exported, Refusal>,
+    out: &[u8],
     counts: &mut [u64; 23],
 ) {
     let mut c = Cursor::new(list, at);
@@ -512,25 +382,25 @@ fn hold(
     let mut levels = [MARK; 8192];
     let mut labels = [MARK; 4096];
     let mut out = [MARK_BYTE; 4096];
-    let call = call_at(list, stop);
-    let lent = call.lent;
-    let style = call.style;
-    let told = export_fronts(
-        text,
-        lent,
-        call.room,
-        &mut tokens,
-        &mut actions,
-        &mut operands,
-        &mut levels,
-        &mut labels,
-        style,
-        &mut out,
-    );
-    hold_answer(rt, list, call.next, next, told, &out, counts);
-    hold_told(
-        rt, text, call, told, &tokens, &actions, &operands, &levels, &labels, &out, counts,
-    );
+    let call = call_at(list, stop, text);
+    let tables = Tables {
+        tokens: &mut tokens,
+        actions: &mut actions,
+        operands: &mut operands,
+        levels: &mut levels,
+        labels: &mut labels,
+    };
+    let told = export_fronts(call.asked, tables, &mut out);
+    let left = Left {
+        tokens: &tokens,
+        actions: &actions,
+        operands: &operands,
+        levels: &levels,
+        labels: &labels,
+        out: &out,
+    };
+    hold_answer(rt, list, call.next, next, told, left.out, counts);
+    hold_told(rt, call.asked, told, left, counts);
     add(counts, CALLS, 1);
 }
 

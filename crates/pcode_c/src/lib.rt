@@ -67,7 +67,14 @@ pub extern "C" fn pcode_export(
     ensures { ExportFor as_printed text.now (lent tokens.old actions.old operands.old levels.old labels.old) (lent tokens.new actions.new operands.new levels.new labels.new) out.old out.new told.old told.new result }
 {
     let style = c_export::style_with(as_printed);
-    let answer = export::export(text, tokens, actions, operands, levels, labels, style, out);
+    let mut lent = Tables {
+        tokens,
+        actions,
+        operands,
+        levels,
+        labels,
+    };
+    let answer = export::export(text, &mut lent, style, out);
     c_export::tell_export(answer, told)
 }
 

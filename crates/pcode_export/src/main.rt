@@ -4,7 +4,7 @@
 
 use action_records::Style;
 use answers::Refusal;
-use export::Exporting;
+use as2_pcode::Tables;
 use files::Status;
 use printing::{Printer, print_text};
 use std::env::Env;
@@ -15,21 +15,7 @@ fn write_movie(rt: HostRuntime, out: &[u8; 655360], n: usize) {
 }
 
 fn print_refused(rt: HostRuntime, name: &[u8], text: &[u8], tokens: &mut [u64; 65536], r: Refusal) {
-    reporting::print_refused_at(Printer::Errors(rt), name, text, tokens, r);
-}
-
-// A parameter that is an array has its length by its type, so lending it on asks no proof.
-fn export_into(
-    text: &[u8],
-    tokens: &mut [u64; 65536],
-    actions: &mut [u64; 32769],
-    operands: &mut [u64; 32769],
-    levels: &mut [u64; 65538],
-    labels: &mut [u64; 32769],
-    style: Style,
-    out: &mut [u8; 655360],
-) -> Exporting {
-    export::export(text, tokens, actions, operands, levels, labels, style, out)
+    reporting::print_refused_at(rt, Stream::Errors, name, text, tokens, r);
 }
 
 // An entry of each table but the tokens' takes two bytes of text or more, the top level none. That of a level has two
@@ -41,22 +27,19 @@ fn export_text(rt: HostRuntime, name: &[u8], text: &[u8], style: Style) -> Statu
     let mut levels = [0u64; 65538];
     let mut labels = [0u64; 32769];
     let mut out = [0u8; 655360];
-    let exporting = export_into(
-        text,
-        &mut tokens,
-        &mut actions,
-        &mut operands,
-        &mut levels,
-        &mut labels,
-        style,
-        &mut out,
-    );
-    match exporting {
-        Exporting::Written(_, n) => {
-            write_movie(rt, &out, n);
+    let mut tables = Tables {
+        tokens: &mut tokens,
+        actions: &mut actions,
+        operands: &mut operands,
+        levels: &mut levels,
+        labels: &mut labels,
+    };
+    match export::export(text, &mut tables, style, &mut out) {
+        Ok(exported) => {
+            write_movie(rt, &out, exported.bytes);
             Status::Read
         }
-        Exporting::Refused(r) => {
+        Err(r) => {
             print_refused(rt, name, text, &mut tokens, r);
             Status::Refused
         }
@@ -67,8 +50,8 @@ fn export_text(rt: HostRuntime, name: &[u8], text: &[u8], style: Style) -> Statu
 fn export_file(rt: HostRuntime, name: &[u8], style: Style) -> Status {
     let mut text = [0u8; 65537];
     match files::read_file(rt, b"pcode-export", name, &mut text) {
-        Some(n) => export_text(rt, name, &text[..n], style),
-        None => Status::Failed,
+        Input::Bytes(n) => export_text(rt, name, views::part(&text, 0, n), style),
+        Input::Failed => 2,
     }
 }
 
@@ -78,7 +61,7 @@ fn export_argument(rt: HostRuntime, i: usize, style: Style) -> Status {
         Ok(n) => export_file(rt, &name[..n], style),
         Err(_) => {
             files::say_long_argument(rt, b"pcode-export");
-            Status::Failed
+            2
         }
     }
 }
@@ -92,7 +75,7 @@ fn is_as_printed(rt: HostRuntime, i: usize) -> bool {
 }
 
 // Argument 0 is the program. The last of the others names the file, whatever its name.
-fn export_arguments(rt: HostRuntime, count: usize) -> Status {
+fn export_arguments(rt: HostRuntime, count: usize) -> u64 {
     if count < 2 {
         return export_file(rt, b"-", Style::AsPlayed);
     }
@@ -102,8 +85,12 @@ fn export_arguments(rt: HostRuntime, count: usize) -> Status {
     if is_as_printed(rt, 1) {
         return export_argument(rt, 2, Style::AsPrinted);
     }
-    Printer::Errors(rt).text(b"usage: pcode-export [--as-printed] [FILE]\n");
-    Status::Failed
+    write_text(
+        rt,
+        Stream::Errors,
+        b"usage: pcode-export [--as-printed] [FILE]\n",
+    );
+    2
 }
 
 fn main(rt: HostRuntime) {
