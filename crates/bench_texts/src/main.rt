@@ -395,14 +395,14 @@ fn show_tables(rt: HostRuntime, text: &[u8], p: Counts) {
     let mut operands = [MARK; 33];
     let mut levels = [MARK; 33];
     let mut labels = [MARK; 33];
-    let tables = Tables {
+    let mut tables = Tables {
         tokens: &mut words,
         actions: &mut actions,
         operands: &mut operands,
         levels: &mut levels,
         labels: &mut labels,
     };
-    let n = entries_of(rt, fronts::read_fronts(text, p, tables));
+    let n = entries_of(rt, fronts::read_fronts(text, p, &mut tables));
     print_kept(
         rt,
         are_marked(n, &words, &actions, &operands, &levels, &labels),

@@ -9,26 +9,45 @@ pub fn read_whole(text: &[u8], tables: &mut Tables) -> Result<Counts, Refusal> {
     as2_pcode::read(text, tables)
 }
 
-// As many words of each table are lent as `lent` says, of levels too; a table that is shorter is lent whole.
-pub fn read_fronts(text: &[u8], lent: Counts, tables: Tables) -> Result<Counts, Refusal> {
-    let Tables {
-        tokens,
-        actions,
-        operands,
-        levels,
-        labels,
-    } = tables;
+// The slices stand for `Tables` here: the checker does not cover parts of a struct's slices that are lent at once.
+fn read_parts(
+    text: &[u8],
+    lent: Counts,
+    tokens: &mut [u64],
+    actions: &mut [u64],
+    operands: &mut [u64],
+    levels: &mut [u64],
+    labels: &mut [u64],
+) -> Result<Counts, Refusal> {
     let a = lent.tokens.min(tokens.len());
     let b = lent.actions.min(actions.len());
     let c = lent.operands.min(operands.len());
     let d = lent.levels.min(levels.len());
     let e = lent.labels.min(labels.len());
+    let (tokens, _) = tokens.split_at_mut(a);
+    let (actions, _) = actions.split_at_mut(b);
+    let (operands, _) = operands.split_at_mut(c);
+    let (levels, _) = levels.split_at_mut(d);
+    let (labels, _) = labels.split_at_mut(e);
     let mut fronts = Tables {
-        tokens: &mut tokens[..a],
-        actions: &mut actions[..b],
-        operands: &mut operands[..c],
-        levels: &mut levels[..d],
-        labels: &mut labels[..e],
+        tokens,
+        actions,
+        operands,
+        levels,
+        labels,
     };
     as2_pcode::read(text, &mut fronts)
+}
+
+// As many words of each table are lent as `lent` says, of levels too; a table that is shorter is lent whole.
+pub fn read_fronts(text: &[u8], lent: Counts, tables: &mut Tables) -> Result<Counts, Refusal> {
+    read_parts(
+        text,
+        lent,
+        tables.tokens,
+        tables.actions,
+        tables.operands,
+        tables.levels,
+        tables.labels,
+    )
 }

@@ -57,14 +57,14 @@ fn hold(rt: HostRuntime, list: &[u8], stop: usize, next: usize, text: &[u8], tot
     let mut labels = [0u64; 2048];
     let mut c = Cursor::new(list, stop);
     let lent = lent_at(&mut c);
-    let tables = Tables {
+    let mut tables = Tables {
         tokens: &mut words,
         actions: &mut acted,
         operands: &mut operands,
         levels: &mut levels,
         labels: &mut labels,
     };
-    let reading = fronts::read_fronts(text, lent, tables);
+    let reading = fronts::read_fronts(text, lent, &mut tables);
     let of = Source {
         text,
         tokens: &words,
