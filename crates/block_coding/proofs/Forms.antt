@@ -9,7 +9,7 @@ use lib.Seq.{drop-drop, get_or-drop}
 use Rattle.shapes.specs.declared.Shape.TheVariants as S
 use Rattle.lexemes.specs.Events.{Part, body, try, catch, finally}
 use Rattle.movies.specs.Movie.{Value, ◌!◌, number_in, is_register}
-use Rattle.action_records.specs.Fields.{Field, UI8, UI16, bits, size, branch}
+use Rattle.action_records.specs.Fields.{Field, UI8, UI16, bits, size}
 use Rattle.action_records.specs.Operands.{text, parameters, one, catch_target, ◌in-bits◌}
 use Rattle.field_coding.specs.declared.Coder.{Coder}
 use Rattle.field_coding.specs.Coding.{Puts, Codes}
@@ -22,9 +22,6 @@ use Rattle.block_coding.specs.Shapes.{plain_fields, before_parameters}
 module _ {c r : Coder} (a : Codes (UI16 0 ∷ []) c r) where
   pub no_size : (p : Part) → Codes (size p ∷ []) c r
   no_size p = record { puts = a.puts }
-
-  pub no_offset : (n : ℕ) → Codes (branch n ∷ []) c r
-  no_offset n = record { puts = a.puts }
 
 -- ---- functions
 

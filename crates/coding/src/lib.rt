@@ -15,6 +15,7 @@ use shape_coding::put_fields;
 use shapes::shape_of;
 
 // The length of a record, and whether all of it can be coded.
+// No Option: put_record's clause end_value promises the length of a record that cannot be coded too.
 #[derive(Clone, Copy)]
 pub struct Coded {
     pub end: usize,

@@ -12,6 +12,7 @@ ghost use Rattle.filling.specs.Filling.{filled, unless, byte_at, action_at, aime
 use entries::Block;
 
 // An action that a field tells of unless it holds its number; 1,048,576 is none.
+// No Option: the lowest of several is their `min`, of which None would be the lowest.
 pub fn unless_holds(holds: bool, a: usize) -> usize
     ensures { result ≡ unless holds a }
 {

@@ -15,6 +15,7 @@ use field_coding::Coder;
 pub use operands::Operands;
 
 // Four flags as a number, and whether each is 0 or 1.
+// No Option: `Flagged` promises the number of flags that are not 0 or 1 too.
 #[derive(Clone, Copy)]
 struct Flags {
     value: u64,
