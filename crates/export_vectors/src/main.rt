@@ -144,7 +144,7 @@ fn is_as_read(asked: Asked, c: Counts, left: Left) -> bool {
         levels: &mut levels,
         labels: &mut labels,
     };
-    let reading = fronts::read_fronts(asked.text, asked.lent, tables);
+    let reading = fronts::read_fronts(asked.text, asked.lent, &mut tables);
     let read = Left {
         tokens: &tokens,
         actions: &actions,
@@ -164,7 +164,7 @@ fn is_written_again(asked: Asked, n: usize, left: Left) -> bool {
     let mut levels = [MARK; 8192];
     let mut labels = [MARK; 4096];
     let mut out = [MARK_BYTE; 4096];
-    let mut tables = Tables {
+    let tables = Tables {
         tokens: &mut tokens,
         actions: &mut actions,
         operands: &mut operands,
@@ -194,7 +194,7 @@ fn is_refused(asked: Asked, number: u64, place: usize) -> bool {
     let mut levels = [MARK; 8192];
     let mut labels = [MARK; 4096];
     let mut out = [MARK_BYTE; 4096];
-    let mut tables = Tables {
+    let tables = Tables {
         tokens: &mut tokens,
         actions: &mut actions,
         operands: &mut operands,
@@ -383,7 +383,7 @@ fn hold(
     let mut labels = [MARK; 4096];
     let mut out = [MARK_BYTE; 4096];
     let call = call_at(list, stop, text);
-    let mut tables = Tables {
+    let tables = Tables {
         tokens: &mut tokens,
         actions: &mut actions,
         operands: &mut operands,
