@@ -17,29 +17,52 @@ pub struct Asked<'a> {
     pub style: Style,
 }
 
-// As many words of each table are lent as is asked, of levels too; a table, or an output, that is shorter is lent whole.
-pub fn export_fronts(asked: Asked, tables: Tables, out: &mut [u8]) -> Result<Exported, Refusal> {
-    let Tables {
-        tokens,
-        actions,
-        operands,
-        levels,
-        labels,
-    } = tables;
+// The slices stand for `Tables` here: the checker does not cover parts of a struct's slices that are lent at once.
+fn export_parts(
+    asked: Asked,
+    tokens: &mut [u64],
+    actions: &mut [u64],
+    operands: &mut [u64],
+    levels: &mut [u64],
+    labels: &mut [u64],
+    out: &mut [u8],
+) -> Result<Exported, Refusal> {
     let a = asked.lent.tokens.min(tokens.len());
     let b = asked.lent.actions.min(actions.len());
     let c = asked.lent.operands.min(operands.len());
     let d = asked.lent.levels.min(levels.len());
     let e = asked.lent.labels.min(labels.len());
     let n = asked.room.min(out.len());
+    let (tokens, _) = tokens.split_at_mut(a);
+    let (actions, _) = actions.split_at_mut(b);
+    let (operands, _) = operands.split_at_mut(c);
+    let (levels, _) = levels.split_at_mut(d);
+    let (labels, _) = labels.split_at_mut(e);
     let mut fronts = Tables {
-        tokens: &mut tokens[..a],
-        actions: &mut actions[..b],
-        operands: &mut operands[..c],
-        levels: &mut levels[..d],
-        labels: &mut labels[..e],
+        tokens,
+        actions,
+        operands,
+        levels,
+        labels,
     };
     export::export(asked.text, &mut fronts, asked.style, &mut out[..n])
+}
+
+// As many words of each table are lent as is asked, of levels too; a table, or an output, that is shorter is lent whole.
+pub fn export_fronts(
+    asked: Asked,
+    tables: &mut Tables,
+    out: &mut [u8],
+) -> Result<Exported, Refusal> {
+    export_parts(
+        asked,
+        tables.tokens,
+        tables.actions,
+        tables.operands,
+        tables.levels,
+        tables.labels,
+        out,
+    )
 }
 
 // The front of some bytes; all, where they are fewer.

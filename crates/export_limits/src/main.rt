@@ -117,14 +117,14 @@ fn try_text(rt: HostRuntime, text: &[u8], room: usize, field: usize) {
         room,
         style: Style::AsPlayed,
     };
-    let tables = Tables {
+    let mut tables = Tables {
         tokens: &mut tokens,
         actions: &mut actions,
         operands: &mut operands,
         levels: &mut levels,
         labels: &mut labels,
     };
-    let told = export_fronts(asked, tables, &mut out);
+    let told = export_fronts(asked, &mut tables, &mut out);
     print_answer(rt, told, &out, field);
     let left = Left {
         tokens: &tokens,

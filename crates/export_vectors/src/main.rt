@@ -164,14 +164,14 @@ fn is_written_again(asked: Asked, n: usize, left: Left) -> bool {
     let mut levels = [MARK; 8192];
     let mut labels = [MARK; 4096];
     let mut out = [MARK_BYTE; 4096];
-    let tables = Tables {
+    let mut tables = Tables {
         tokens: &mut tokens,
         actions: &mut actions,
         operands: &mut operands,
         levels: &mut levels,
         labels: &mut labels,
     };
-    let told = export_fronts(asked, tables, &mut out);
+    let told = export_fronts(asked, &mut tables, &mut out);
     let again = Left {
         tokens: &tokens,
         actions: &actions,
@@ -194,14 +194,14 @@ fn is_refused(asked: Asked, number: u64, place: usize) -> bool {
     let mut levels = [MARK; 8192];
     let mut labels = [MARK; 4096];
     let mut out = [MARK_BYTE; 4096];
-    let tables = Tables {
+    let mut tables = Tables {
         tokens: &mut tokens,
         actions: &mut actions,
         operands: &mut operands,
         levels: &mut levels,
         labels: &mut labels,
     };
-    let told = export_fronts(asked, tables, &mut out);
+    let told = export_fronts(asked, &mut tables, &mut out);
     let left = Left {
         tokens: &tokens,
         actions: &actions,
@@ -383,14 +383,14 @@ fn hold(
     let mut labels = [MARK; 4096];
     let mut out = [MARK_BYTE; 4096];
     let call = call_at(list, stop, text);
-    let tables = Tables {
+    let mut tables = Tables {
         tokens: &mut tokens,
         actions: &mut actions,
         operands: &mut operands,
         levels: &mut levels,
         labels: &mut labels,
     };
-    let told = export_fronts(call.asked, tables, &mut out);
+    let told = export_fronts(call.asked, &mut tables, &mut out);
     let left = Left {
         tokens: &tokens,
         actions: &actions,
