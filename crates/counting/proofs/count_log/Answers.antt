@@ -1,8 +1,6 @@
 -- `counting::count_log` meets its contract. Assumes nothing.
 use borrow.Author.Rules.{rules}
-use Prim.Native.Nat.{◌-◌}
-use lib.ListN.{length}
-use Rattle.counting.proofs.Counts.{Done, begins, again, ended}
+use Rattle.counting.proofs.Counts.{begins, again, ended}
 use Rattle.counting.proofs.count_log.Goals as goal
 
 pub loop-word-init : goal.loop-word-init

@@ -1,5 +1,4 @@
 -- `counting::one_if` meets its contract. Assumes nothing.
-use borrow.Author.Rules.{rules}
 use native.Mathlib.Omega.{arith}
 use Rattle.counting.proofs.Counts.{one, zero_if}
 use Rattle.counting.proofs.one_if.Goals as goal
