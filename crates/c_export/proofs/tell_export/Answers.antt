@@ -1,5 +1,4 @@
 -- `c_export::tell_export` meets its contract. Assumes nothing.
-use borrow.Author.Rules.{rules}
 use mathlib.Core.Path.{sym, ap, ◌∙◌}
 use lib.ListN.{set}
 use Rattle.c_export.specs.Telling.{export_number, export_after}
