@@ -36,6 +36,7 @@ pub fn tell_label(label: Label, out: &mut [u64; 3])
 
 // ---- a level; the numbers of its block and of its net are 0 where there is none
 
+// The numbers are those of pcode.h, so they stand here and not at the enum.
 fn block_part(b: Block) -> u64
     ensures { result ≡ block_part b }
 {

@@ -119,7 +119,8 @@ fn is_near(from: usize, to: usize) -> bool
     from - to < 32769
 }
 
-// The offset of the jump at position k of a level with n actions; its action, if the offset does not fit.
+// The offset of the jump at position k of a level with n actions; its action, if the offset does not fit. An aim is a word of the lent
+// table of aims, so 0 stands for none.
 fn aim_jump(place: &[u64], n: usize, k: usize, aim: usize, out: &mut [u8]) -> usize
     requires { k < n }
     ensures out_after { out.new ≡ aimed place.now n k aim out.old }

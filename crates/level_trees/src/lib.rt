@@ -23,10 +23,7 @@ fn owned_by(block: Block, action: usize) -> bool
 {
     match block {
         Block::Top => false,
-        Block::Body(a) => a == action,
-        Block::Try(a) => a == action,
-        Block::Catch(a) => a == action,
-        Block::Finally(a) => a == action,
+        Block::Body(a) | Block::Try(a) | Block::Catch(a) | Block::Finally(a) => a == action,
     }
 }
 

@@ -72,9 +72,6 @@ module _ (T : Tables) (y : Style) (l : Tree) (n a m : ℕ) (place₀ out₀ : Li
         places = λ j h. absurd (omega arith);
       }
 
-  pub own-few : n < 1048576
-  own-few = let c = q.count in let i = own_in l in let f = q.few in omega arith
-
   module _ (act lev byte late k : ℕ) (place out : List ℕ) (g : Progress l n a m place₀ out₀ act lev byte late k place out) where
     pub low : (byte < 1099511627776) × (act < 1048576)
     low =

@@ -25,7 +25,8 @@ pub struct Plan<'a> {
     pub style: Style,
 }
 
-// The next action and level, how many bytes were written, and the lowest action with a size or an offset out of its field.
+// The next action and level, how many bytes were written, and the lowest action with a size or an offset out of its field
+// (1,048,576 for none, so that the lowest is a min).
 #[derive(Clone, Copy)]
 pub struct At {
     pub action: usize,
