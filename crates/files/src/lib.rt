@@ -4,6 +4,7 @@
 
 ghost use Rattle.std.specs.Prelude.{◌≡◌, ◌≤◌, IfOk, IfSome, length};
 ghost use Rattle.std.specs.Result.{result_ok};
+ghost use Rattle.files.specs.Tally.{added, status_of};
 
 use printing::Printer;
 use std::env::{Env, FillError};
@@ -61,6 +62,7 @@ pub fn read_up_to<R: Read>(input: &mut R, buf: &mut [u8]) -> io::Result<usize>
     ensures { IfOk result (λ n. n ≤ length buf.new) }
 {
     let mut n = 0;
+    // each turn takes as much as was read: no range or iterator gives these steps
     while n < buf.len() {
         let more = input.read(&mut buf[n..])?;
         if more == 0 {
@@ -191,7 +193,9 @@ pub struct Tally {
 
 impl Tally {
     // A file more. No count comes near to the limit.
-    pub fn add(&mut self, outcome: Outcome) {
+    pub fn add(&mut self, outcome: Outcome)
+        ensures { self.new ≡ added outcome self.old }
+    {
         match outcome {
             Outcome::Read(n) => self.warnings = self.warnings.wrapping_add(n),
             Outcome::Refused => self.refused = self.refused.wrapping_add(1),
@@ -199,7 +203,9 @@ impl Tally {
         }
     }
 
-    pub fn status(self) -> Status {
+    pub fn status(self) -> Status
+        ensures { result ≡ status_of self }
+    {
         if 0 < self.failed {
             Status::Failed
         } else if 0 < self.refused {

@@ -12,6 +12,7 @@ use shapes::Shape;
 // function's parameter, Register the number before it.
 #[derive(Clone, Copy)]
 pub enum Wanted {
+    // no operand may stand there; with Option, Some would stand around each of the others here and in the specs' table
     Nothing,
     String,
     Value,
