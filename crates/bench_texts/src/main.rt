@@ -3,6 +3,8 @@
 // documents.
 #![tactic(auto)]
 
+ghost use Rattle.std.specs.Prelude.{◌≤◌};
+
 use answers::Refusal;
 use as2_pcode::{Counts, Tables};
 use printing::{print_bits, print_number, print_refusal, print_signed, print_text};
@@ -13,20 +15,11 @@ use values::PushValue;
 
 // What a terminal would not show is written as in Rust.
 fn print_byte(rt: HostRuntime, b: u8) {
-    if b == 10 {
-        print_text(rt, b"\\n");
-        return;
+    match b {
+        10 => print_text(rt, b"\\n"),
+        32..=126 => print_text(rt, &[b]),
+        _ => print_escape(rt, b),
     }
-    if b < 32 {
-        print_escape(rt, b);
-        return;
-    }
-    if 126 < b {
-        print_escape(rt, b);
-        return;
-    }
-    let one = [b];
-    print_text(rt, &one);
 }
 
 fn print_escape(rt: HostRuntime, b: u8) {
@@ -35,8 +28,8 @@ fn print_escape(rt: HostRuntime, b: u8) {
 }
 
 fn print_bytes(rt: HostRuntime, text: &[u8]) {
-    for i in 0..text.len() {
-        print_byte(rt, text[i]);
+    for b in text {
+        print_byte(rt, *b);
     }
 }
 
@@ -213,10 +206,10 @@ fn entries_of(rt: HostRuntime, reading: Result<Counts, Refusal>) -> Counts {
 fn answer(
     rt: HostRuntime,
     text: &[u8],
-    words: &[u64; 1024],
-    operands: &[u64; 1024],
-    levels: &[u64; 2048],
-    labels: &[u64; 1024],
+    words: &[u64],
+    operands: &[u64],
+    levels: &[u64],
+    labels: &[u64],
     reading: Result<Counts, Refusal>,
 ) {
     let c = entries_of(rt, reading);
@@ -226,9 +219,13 @@ fn answer(
     print_text(rt, b"\n");
 }
 
-fn read_small(rt: HostRuntime, text: &[u8]) {
-    let mut words = [0u64; 1024];
-    let mut actions = [0u64; 1024];
+// With so many tokens and actions; no text has more than 1,024 operands, levels or labels.
+#[inline(never)]
+fn read<const T: usize, const A: usize>(rt: HostRuntime, text: &[u8])
+    requires { (T ≤ 65536) × (A ≤ 16384) }
+{
+    let mut words = [0u64; T];
+    let mut actions = [0u64; A];
     let mut operands = [0u64; 1024];
     let mut levels = [0u64; 2048];
     let mut labels = [0u64; 1024];
@@ -243,51 +240,20 @@ fn read_small(rt: HostRuntime, text: &[u8]) {
     answer(rt, text, &words, &operands, &levels, &labels, reading);
 }
 
-// A token for each byte, and an action for each four; of these texts none has operands or labels.
-fn read_large(rt: HostRuntime, text: &[u8]) {
-    let mut words = [0u64; 65536];
-    let mut actions = [0u64; 16384];
-    let mut operands = [0u64; 1024];
-    let mut levels = [0u64; 2048];
-    let mut labels = [0u64; 1024];
-    let mut tables = Tables {
-        tokens: &mut words,
-        actions: &mut actions,
-        operands: &mut operands,
-        levels: &mut levels,
-        labels: &mut labels,
-    };
-    entries_of(rt, fronts::read_whole(text, &mut tables));
-    print_text(rt, b"\n");
-}
-
 fn show(rt: HostRuntime, text: &[u8]) {
     print_head(rt, text);
-    read_small(rt, text);
+    read::<1024, 1024>(rt, text);
 }
 
 // ---- nestings and sizes
 
-// The byte at a place of a piece that is written again and again.
-fn repeated(piece: &[u8], at: usize) -> u8 {
-    let n = piece.len();
-    if n == 0 {
-        return 0;
-    }
-    let k = at % n;
-    if n <= k {
-        return 0;
-    }
-    piece[k]
-}
-
 // A piece again and again, from a place up to another.
 fn fill(text: &mut [u8], from: usize, to: usize, piece: &[u8]) {
-    if text.len() < to {
+    if to < from || text.len() < to {
         return;
     }
-    for i in from..to {
-        text[i] = repeated(piece, i - from);
+    for (byte, repeated) in text[from..to].iter_mut().zip(piece.iter().cycle()) {
+        *byte = *repeated;
     }
 }
 
@@ -307,7 +273,7 @@ fn read_nested(rt: HostRuntime, before: &[u8], blocks: usize, behind: &[u8]) {
     fill(&mut text, start, opened, b"With {");
     fill(&mut text, opened, closed, b"}\n");
     fill(&mut text, closed, closed + more, behind);
-    read_small(rt, front(&text, closed + more));
+    read::<1024, 1024>(rt, front(&text, closed + more));
 }
 
 fn show_nested(rt: HostRuntime, before: &[u8], blocks: usize, behind: &[u8]) {
@@ -319,20 +285,21 @@ fn show_nested(rt: HostRuntime, before: &[u8], blocks: usize, behind: &[u8]) {
     read_nested(rt, before, blocks, behind);
 }
 
-// A piece again and again in a text of the largest size, and of a byte more.
+// A piece again and again in a text of the largest size, and of a byte more: a token for each byte, an action for each four.
 fn show_size(rt: HostRuntime, piece: &[u8]) {
     let mut text = [0u8; 65537];
     fill(&mut text, 0, 65537, piece);
     print_text(rt, b"65536 bytes of ");
     print_head(rt, piece);
-    read_large(rt, front(&text, 65536));
+    read::<65536, 16384>(rt, front(&text, 65536));
     print_text(rt, b"65537 bytes of ");
     print_head(rt, piece);
-    read_large(rt, &text);
+    read::<65536, 16384>(rt, &text);
 }
 
 // ---- tables
 
+// What stands in the tables before a call: a word that no entry is.
 const MARK: u64 = 16045690984503098046;
 
 fn print_lent(rt: HostRuntime, p: Counts) {
@@ -346,12 +313,7 @@ fn print_lent(rt: HostRuntime, p: Counts) {
 
 // Whether a table holds the mark from a place on.
 fn is_marked(table: &[u64], from: usize) -> bool {
-    for i in from..table.len() {
-        if table[i] != MARK {
-            return false;
-        }
-    }
-    true
+    table.iter().skip(from).all(|word| *word == MARK)
 }
 
 // Whether every table holds the mark behind its entries; a level takes two words.
@@ -363,19 +325,11 @@ fn are_marked(
     levels: &[u64],
     labels: &[u64],
 ) -> bool {
-    if !is_marked(words, c.tokens) {
-        return false;
-    }
-    if !is_marked(actions, c.actions) {
-        return false;
-    }
-    if !is_marked(operands, c.operands) {
-        return false;
-    }
-    if !is_marked(levels, c.levels.min(100) * 2) {
-        return false;
-    }
-    is_marked(labels, c.labels)
+    is_marked(words, c.tokens)
+        && is_marked(actions, c.actions)
+        && is_marked(operands, c.operands)
+        && is_marked(levels, c.levels.min(100) * 2)
+        && is_marked(labels, c.labels)
 }
 
 fn print_kept(rt: HostRuntime, kept: bool) {
@@ -409,6 +363,7 @@ fn show_tables(rt: HostRuntime, text: &[u8], p: Counts) {
     );
 }
 
+// Five numbers stand in a line below, where a struct would take seven lines for each case.
 fn show_words(
     rt: HostRuntime,
     text: &[u8],

@@ -48,7 +48,7 @@ fn has_block(shape: Shape) -> bool {
     is_function(shape) || matches!(shape, Shape::Block | Shape::Try)
 }
 
-// Push and ConstantPool take any number of operands.
+// Push and ConstantPool take any number of operands. Not one with `is_function`: they share `matches!` and no shape.
 fn is_list(shape: Shape) -> bool {
     matches!(shape, Shape::Values | Shape::Strings)
 }
@@ -260,25 +260,9 @@ fn print_brace(to: Printer, stands: Stands) {
     }
 }
 
-pub fn print_sentence(to: Printer, s: Sentence, stands: Stands) {
-    let words = match s {
-        Sentence::Operand(w) => return print_operand(to, w, stands),
-        Sentence::OperandOrEnd(w) => return print_operand_or_end(to, w, stands),
-        Sentence::CommaThen(w) => return print_comma_then(to, w, stands),
-        Sentence::CommaOrEnd => "a comma or the end of the line was expected",
-        Sentence::Brace => return print_brace(to, stands),
-        Sentence::BraceByCount => "`{` was expected: the count says how many parameters there are",
-        Sentence::BraceNoMore => "`{` was expected: this action takes no more operands",
-        Sentence::LineEnd => "the end of the line was expected",
-        Sentence::NoOperands => "the end of the line was expected: this action takes no operands",
-        Sentence::NoMoreOperands =>
-            "the end of the line was expected: this action takes no more operands",
-        Sentence::NoBlock => "the end of the line was expected: no block can stand here",
-        Sentence::LineBeforeBrace => "a new line was expected before `}`",
-        Sentence::LineBeforeCatch => "a new line was expected before catch",
-        Sentence::LineBeforeFinally => "a new line was expected before finally",
-        Sentence::OneToALine => "the end of the line was expected: each action has its own line",
-        Sentence::ActionAsLabel => "an action's name cannot be a label",
+// Where a label or an action may start, or anywhere.
+fn words_elsewhere(s: Sentence) -> &'static str {
+    match s {
         Sentence::NoSuchAction => "no such action, or a label without its colon",
         Sentence::KeywordAsLabel => "this word has another meaning and cannot be a label",
         Sentence::ActionOrLabel => "an action or a label was expected",
@@ -298,6 +282,37 @@ pub fn print_sentence(to: Printer, s: Sentence, stands: Stands) {
         Sentence::Exponent =>
             "end the line: an exponent's digits are not taken where they run to the end of the text",
         Sentence::Digitless => "a digit is missing in this number",
-    };
-    to.text(words.as_bytes());
+        // the two functions below have the others
+        _ => "",
+    }
+}
+
+// The sentences of an action that are the same whatever stands there.
+fn words_in_action(s: Sentence) -> &'static str {
+    match s {
+        Sentence::CommaOrEnd => "a comma or the end of the line was expected",
+        Sentence::BraceByCount => "`{` was expected: the count says how many parameters there are",
+        Sentence::BraceNoMore => "`{` was expected: this action takes no more operands",
+        Sentence::LineEnd => "the end of the line was expected",
+        Sentence::NoOperands => "the end of the line was expected: this action takes no operands",
+        Sentence::NoMoreOperands =>
+            "the end of the line was expected: this action takes no more operands",
+        Sentence::NoBlock => "the end of the line was expected: no block can stand here",
+        Sentence::LineBeforeBrace => "a new line was expected before `}`",
+        Sentence::LineBeforeCatch => "a new line was expected before catch",
+        Sentence::LineBeforeFinally => "a new line was expected before finally",
+        Sentence::OneToALine => "the end of the line was expected: each action has its own line",
+        Sentence::ActionAsLabel => "an action's name cannot be a label",
+        _ => words_elsewhere(s),
+    }
+}
+
+pub fn print_sentence(to: Printer, s: Sentence, stands: Stands) {
+    match s {
+        Sentence::Operand(w) => print_operand(to, w, stands),
+        Sentence::OperandOrEnd(w) => print_operand_or_end(to, w, stands),
+        Sentence::CommaThen(w) => print_comma_then(to, w, stands),
+        Sentence::Brace => print_brace(to, stands),
+        _ => to.text(words_in_action(s).as_bytes()),
+    }
 }
