@@ -13,7 +13,6 @@ use lib.Signed.{◌≤ℤ◌}
 use borrow.Author.Tests.{leb-true, leb-false, eqb-true, eqb-false, lt-ltb}
 use Rattle.tokens.specs.declared.Token.{Token}
 use Rattle.lexemes.specs.Lexemes.{Lexeme, raw, numbered, same_name}
-use Rattle.lexemes.specs.Events.{Part, body, try, catch, finally}
 use Rattle.lexemes.proofs.Tests.{either}
 use Rattle.grammar.specs.Grammar.{Items, done, label, action, Blocks, no_blocks, block}
 use Rattle.grammar.specs.Reading as R
@@ -27,11 +26,12 @@ use Rattle.entries.specs.Entries.{block_number, level_word, levels_words, level_
 use Rattle.entries.specs.Levels.{Small, Small17}
 use Rattle.entries.proofs.Words.{InRange}
 use Rattle.reading.specs.Trees.{All, AllOf, IsLow}
-use Rattle.reading.specs.Tables.{under, action_entries, part_of, block_of, net_entry, level_entries}
+use Rattle.reading.specs.Tables.{under, action_entries, block_of, net_entry, level_entries}
 use Rattle.reading.proofs.Runs.{Every, every_append}
 use Rattle.reading.proofs.Groups.{GivenAll, NamedLow}
 use Rattle.reading.proofs.Words.{ops, ops_append, own-unclosed-few}
 use Rattle.reading.proofs.LevelSets.{words-length}
+use Rattle.reading.proofs.Writes.{part_most}
 
 -- ---- what comes back from each word of a list comes back from the front of a table
 
@@ -179,12 +179,6 @@ module _ (os : List R.Operand) where
   actions-low xs h g = entries-low xs 0 0 h (omega (arith, g, from-few 0 os))
 
 -- ---- levels
-
-part_most : (p : Part) (o : ℕ) → block_number (part_of p o) ≤ o * 4 + 4
-part_most body o = omega arith
-part_most try o = omega arith
-part_most catch o = omega arith
-part_most finally o = omega arith
 
 -- an undetermined net names one of the actions below M
 module _ (M : ℕ) where

@@ -1,18 +1,48 @@
 // The log of a reading: what was read, as events in the order of the text, one word each. This crate alone knows that word.
 #![tactic(auto)]
 
-ghost use Rattle.std.specs.Prelude.{◌≡◌};
-ghost use Rattle.events.specs.Log.{word_of, kind_of, event_of, Holds};
+ghost use Rattle.std.specs.Prelude.{◌≡◌, ◌≤◌};
+ghost use Rattle.events.specs.Log.{block_number, block_of, word_of, kind_of, event_of, Holds};
 
-// An action with its number, a label and an operand with their tokens, a block that opens (body, try, catch or finally) and a
-// level that closes.
+// Which block of its action a block is.
+#[derive(Clone, Copy)]
+pub enum BlockKind {
+    Body,
+    Try,
+    Catch,
+    Finally,
+}
+
+// An action with its number, a label and an operand with their tokens, a block that opens and a level that closes.
 #[derive(Clone, Copy)]
 pub enum Event {
     Action(u64),
     Label(u64),
     Operand(u64),
-    Opened(u64),
+    Opened(BlockKind),
     Closed,
+}
+
+fn block_number(block: BlockKind) -> u64
+    ensures { (result ≡ block_number block) × (result ≤ 3) }
+{
+    match block {
+        BlockKind::Body => 0,
+        BlockKind::Try => 1,
+        BlockKind::Catch => 2,
+        BlockKind::Finally => 3,
+    }
+}
+
+fn block_of(number: u64) -> BlockKind
+    ensures { result ≡ block_of number }
+{
+    match number {
+        0 => BlockKind::Body,
+        1 => BlockKind::Try,
+        2 => BlockKind::Catch,
+        _ => BlockKind::Finally,
+    }
 }
 
 pub fn log_word(event: Event) -> u64
@@ -23,7 +53,7 @@ pub fn log_word(event: Event) -> u64
         Event::Action(number) => number,
         Event::Label(token) => 1048576 + token,
         Event::Operand(token) => 2 * 1048576 + token,
-        Event::Opened(part) => 3 * 1048576 + part,
+        Event::Opened(block) => 3 * 1048576 + block_number(block),
         Event::Closed => 4 * 1048576,
     }
 }
@@ -43,7 +73,7 @@ pub fn event_of(word: u64) -> Event
         0 => Event::Action(holds),
         1 => Event::Label(holds),
         2 => Event::Operand(holds),
-        3 => Event::Opened(holds),
+        3 => Event::Opened(block_of(holds)),
         _ => Event::Closed,
     }
 }

@@ -2,7 +2,7 @@
 use mathlib.Core.Path.{◌≡◌, refl, sym, ap, ◌∙◌, subst}
 use mathlib.Core.Bool.{Bool, true, false}
 use mathlib.Core.List.{List, [], ◌∷◌}
-use Prim.Native.Nat.{ℕ, suc, ◌+◌, ◌*◌, ◌-◌, ◌≤◌, ◌<◌}
+use Prim.Native.Nat.{ℕ, suc, ◌+◌, ◌*◌, ◌-◌, ◌<◌}
 use native.Mathlib.Omega.{arith}
 use lib.Dec.{ltb}
 use lib.ListN.{length, set}
@@ -17,12 +17,13 @@ use Rattle.operands.specs.declared.At.{At}
 use Rattle.operands.specs.declared.Unread.{Unread}
 use Rattle.operands.specs.declared.Unread.TheVariants.{Bad, Deep}
 use Rattle.classes.specs.Lexemes.{kind_at}
-use Rattle.events.specs.Log.{log_word}
+use Rattle.events.specs.Log.{log_word, block_number}
 use Rattle.operands.specs.Log.{log, logged, part_number}
 use Rattle.operands.specs.Contract.{judge, outcome, Fine, Onward, Ahead, at-end as action-ends}
 use Rattle.operands.proofs.Places.{at-step, at-stop, at-end}
 use Rattle.operands.proofs.Runs.{logged-fine, logged_on, further_on, kind-there, refusal}
-use Rattle.parser.specs.declared.BlockKind.{BlockKind}
+use Rattle.events.specs.declared.BlockKind.{BlockKind}
+use Rattle.events.specs.declared.BlockKind.TheVariants as B
 use Rattle.parser.specs.Parsing.{ReadsIn, at_item, EndRead, part_of, BlockRead, LastBlockRead, BlocksRead, LevelSays, LevelRead}
 use Rattle.parser.proofs.Leaves.{kind-known, kind_other}
 
@@ -74,14 +75,21 @@ level-inner : (text s a b : List ℕ) (c : At) (d : ℕ) (r : Result At Unread) 
 unfolding LevelSays
 level-inner text s a b c d r v = v.says
 
-pub block_goes : (b : BlockKind) (text s a a' l : List ℕ) (c d : At) (room k j : ℕ) (r : Result At Unread) → Fine text s c → k ≡ kind_at s c.at → k ≡ 10 → (room ≡ 0 → ⊥) →
-    (j ≡ part_number (part_of b)) × (j ≤ 3) → a' ≡ set a c.events (log_word 3 j) → d ≡ logged c → LevelRead text s a' l d (room - 1) true r → BlockRead b text s a l c room r
-block_goes b text s a a' l c d room k j r f e z o p q y v =
+-- a block by its number, and by its part
+block-part : (b : BlockKind) → block_number b ≡ part_number (part_of b)
+block-part B.Body = refl
+block-part B.Try = refl
+block-part B.Catch = refl
+block-part B.Finally = refl
+
+pub block_goes : (b : BlockKind) (text s a a' l : List ℕ) (c d : At) (room k : ℕ) (r : Result At Unread) → Fine text s c → k ≡ kind_at s c.at → k ≡ 10 → (room ≡ 0 → ⊥) →
+    a' ≡ set a c.events (log_word 3 (block_number b)) → d ≡ logged c → LevelRead text s a' l d (room - 1) true r → BlockRead b text s a l c room r
+block_goes b text s a a' l c d room k r f e z o q y v =
     let i = kind-known s c.at k 10 e z (omega arith) in
     let m = i.1 in
     let t : room ≡ suc (room - 1) = omega arith in
     let n = set a c.events (log_word 3 (part_number (part_of b))) in
-    let w : a' ≡ n = q ∙ ap (λ (x : ℕ). set a c.events (log_word 3 x)) p.0 in
+    let w : a' ≡ n = q ∙ ap (λ (x : ℕ). set a c.events (log_word 3 x)) (block-part b) in
     let v' : LevelRead text s n l (logged c) (room - 1) true r =
     subst (λ (x : At). LevelRead text s n l x (room - 1) true r) y (subst (λ (x : List ℕ). LevelRead text s x l d (room - 1) true r) w v) in
     record {

@@ -17,7 +17,7 @@ use Rattle.operands.specs.Contract.{judge, outcome, Fine, Onward, Ahead}
 use Rattle.operands.proofs.Runs.{further_on, refusal}
 use Rattle.parser.specs.declared.Handler.{Handler}
 use Rattle.parser.specs.declared.Handler.TheVariants as H
-use Rattle.parser.specs.declared.BlockKind.TheVariants as B
+use Rattle.events.specs.declared.BlockKind.TheVariants as B
 use Rattle.parser.specs.Parsing.{ReadsIn, at_item, EndRead, NoNewlineSeen, ItemSeen, CatchSeen, Finally-at, FinallySeen, HandlerRead, target_of, past_target, move_to, TargetBefore, TargetRead, GiveAsked, given_log, given_at, GiveRead, BlockRead, LastBlockRead, TryRead, HandlersRead, NoCatch, LastRead}
 use Rattle.parser.proofs.BlockLaws.{in_on}
 

@@ -17,8 +17,8 @@ use Rattle.operands.specs.Log.{Log, log, emit, passed}
 use Rattle.operands.specs.Contract.{judge, outcome, Fine, Ahead, Reads, Passes, nothing, at-end, left}
 use Rattle.parser.specs.declared.Handler.{Handler}
 use Rattle.parser.specs.declared.Handler.TheVariants as H
-use Rattle.parser.specs.declared.BlockKind.{BlockKind}
-use Rattle.parser.specs.declared.BlockKind.TheVariants as B
+use Rattle.events.specs.declared.BlockKind.{BlockKind}
+use Rattle.events.specs.declared.BlockKind.TheVariants as B
 
 -- from the symbols α to the symbols β, where d blocks may still open
 pub record ReadsIn (α β : Nesting → List Symbol) (text s a b : List ℕ) (c : At) (d : ℕ) (r : Result At Unread) : Type 0 where

@@ -4,14 +4,13 @@
 
 ghost use Rattle.std.specs.Prelude.{◌≡◌, ◌≤◌, ◌<◌, ◌+◌, length};
 ghost use Rattle.classes.specs.Lexemes.{Sound, kind_at};
-ghost use Rattle.operands.specs.Log.{part_number};
 ghost use Rattle.operands.specs.Contract.{Fine};
-ghost use Rattle.parser.specs.Parsing.{EndRead, ColonRead, LabelRead, NewlinesRead, HandlerRead, TargetRead, past_target, move_to, GiveAsked, GiveRead, TargetBefore, BlockRead, LastBlockRead, TryRead, HandlersRead, LastRead, BlocksRead, NotClosing, Plain, ItemRead, LevelRead, part_of};
+ghost use Rattle.parser.specs.Parsing.{EndRead, ColonRead, LabelRead, NewlinesRead, HandlerRead, TargetRead, past_target, move_to, GiveAsked, GiveRead, TargetBefore, BlockRead, LastBlockRead, TryRead, HandlersRead, LastRead, BlocksRead, NotClosing, Plain, ItemRead, LevelRead};
 ghost use Rattle.parser.specs.Parsed.{Parsed};
 
 use actions::action_number;
 use classes::{Class, fits_at, kind_at};
-use events::Event;
+use events::{BlockKind, Event};
 use operands::{At, Unread, logged, operands, passed, write_event};
 use shapes::{Shape, shape_of};
 use tokens::{TokenKind, token_of};
@@ -38,15 +37,6 @@ pub enum Handler {
     Item(usize),
     Catch(usize),
     Finally(usize),
-}
-
-// Which block of its action a block is.
-#[derive(Clone, Copy)]
-pub enum BlockKind {
-    Body,
-    Try,
-    Catch,
-    Finally,
 }
 
 // ---- leaves
@@ -165,17 +155,6 @@ fn give_target(events: &mut [u64], c: At, a: Option<usize>) -> At
                 events: c.events + 1,
             }
         }
-    }
-}
-
-fn block_number(b: BlockKind) -> u64
-    ensures { (result ≡ part_number (part_of b)) × (result ≤ 3) }
-{
-    match b {
-        BlockKind::Body => 0,
-        BlockKind::Try => 1,
-        BlockKind::Catch => 2,
-        BlockKind::Finally => 3,
     }
 }
 
@@ -309,7 +288,7 @@ fn block(
     if room == 0 {
         return Err(Unread::Deep(c.at));
     }
-    write_event(events, c.events, Event::Opened(block_number(b)));
+    write_event(events, c.events, Event::Opened(b));
     actions(text, s, events, logged(c), room - 1, true)
 }
 

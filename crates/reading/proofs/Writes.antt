@@ -11,7 +11,7 @@ use borrow.Author.Tests.{lt-ltb, le-ltb}
 use Rattle.names.specs.declared.ActionName.{ActionName}
 use Rattle.actions.specs.Numbers.{number_of}
 use Rattle.actions.proofs.Numbers.{number_below, action-number}
-use Rattle.events.specs.Log.{Holdable, log_word, by_kind}
+use Rattle.events.specs.Log.{Holdable, log_word, by_kind, block_of as block_kind}
 use Rattle.events.proofs.Words.{event_is}
 use Rattle.tokens.specs.declared.TokenKind.{TokenKind}
 use Rattle.tokens.specs.Kinds.{is_unclosed}
@@ -19,10 +19,10 @@ use Rattle.tokens.specs.Tokens.{token_of, raw_text}
 use Rattle.entries.specs.declared.Action as D
 use Rattle.entries.specs.declared.Operand.{Operand}
 use Rattle.entries.specs.declared.Level.{Level}
-use Rattle.entries.specs.Entries.{action_word, action_of, operand_word, operand_of, part_of, block_number, level_at, owner_of}
+use Rattle.entries.specs.Entries.{action_word, action_of, operand_word, operand_of, block_number, level_at, owner_of}
 use Rattle.entries.specs.Levels.{fresh, with_action, Small}
 use Rattle.entries.proofs.Words.{action_back, operand_back}
-use Rattle.entries.proofs.Levels.{part-number, part-owner, read_back}
+use Rattle.entries.proofs.Levels.{read_back}
 use Rattle.pcode.specs.Deltas.{delta_of}
 use Rattle.nets.specs.Nets.{is_empty, first_is_empty, moved_by}
 use Rattle.nets.proofs.Bounds.{Bounded, bounded_small}
@@ -34,7 +34,7 @@ use Rattle.grammar.specs.Reading.{Acted, own_actions, unclosed_in, own_unclosed,
 use Rattle.grammar.specs.Nets.{name_is_empty}
 use Rattle.grammar.specs.Trees.{leading, waiting, events, block-events, givens}
 use Rattle.operands.specs.Log.{part_number, event_word}
-use Rattle.writing.specs.Writing.{gather, unclosed_at, unclosed_of, given, gave, Written, written, moved_level, given_in as givenInto, acted, opened, owner_in, closed, by, step, steps}
+use Rattle.writing.specs.Writing.{block_of, gather, unclosed_at, unclosed_of, given, gave, Written, written, moved_level, given_in as givenInto, acted, opened, owner_in, closed, by, step, steps}
 use Rattle.reading.specs.Trees.{All, AllOf, AllIn, IsLow}
 use Rattle.reading.specs.Tables.{part_of as partEntry, operand_entry_word}
 use Rattle.reading.specs.Told.{Of}
@@ -109,7 +109,7 @@ opens P p o =
     record {
       actions = P.actions;
       operands = P.operands;
-      levels = put P.levels P.m (fresh (part_of (part_number p) o));
+      levels = put P.levels P.m (fresh (partEntry p o));
       a = P.a;
       q = P.q;
       m = suc P.m;
@@ -146,11 +146,23 @@ empty_name i k [] os = refl
 empty_name i k (b ∷ w) os = refl
 
 -- a block by its number, and by its part
-part_entry : (p : Part) (o : ℕ) → part_of (part_number p) o ≡ partEntry p o
+part_entry : (p : Part) (o : ℕ) → block_of (block_kind (part_number p)) o ≡ partEntry p o
 part_entry body o = refl
 part_entry try o = refl
 part_entry catch o = refl
 part_entry finally o = refl
+
+pub part_most : (p : Part) (o : ℕ) → block_number (partEntry p o) ≤ o * 4 + 4
+part_most body o = omega arith
+part_most try o = omega arith
+part_most catch o = omega arith
+part_most finally o = omega arith
+
+part_owner : (p : Part) (o : ℕ) → owner_of (partEntry p o) ≡ o
+part_owner body o = refl
+part_owner try o = refl
+part_owner catch o = refl
+part_owner finally o = refl
 
 module _ (text s : List ℕ) (few : length s ≤ 65536) where
   abbrev run : List Event → Written → Written
@@ -249,7 +261,7 @@ module _ (text s : List ℕ) (few : length s ≤ 65536) where
       ∙ (λ j. record {
         actions = P.actions;
         operands = P.operands;
-        levels = (opens P p o).levels;
+        levels = put P.levels P.m (fresh (part_entry p o j));
         at = record { level = P.m; action = o; actions = P.a; operands = P.q; levels = add-one P.m j };
       })
 
@@ -429,7 +441,7 @@ module _ (text s : List ℕ) (few : length s ≤ 65536) where
   -- a block of action o and the blocks behind it
   module _ (P : Point) (ℓ o : ℕ) (is : Before P ℓ o) (p : Part) (x : Items) (bs : Blocks) (room : RoomIn P (block p x bs)) where
     abbrev v₀ : Level
-    v₀ = fresh (part_of (part_number p) o)
+    v₀ = fresh (partEntry p o)
 
     abbrev Pₒ : Point
     Pₒ = opens P p o
@@ -447,7 +459,7 @@ module _ (text s : List ℕ) (few : length s ≤ 65536) where
     long-opened = put_length P.levels P.m v₀
 
     block-small : Small (block_number v₀.block)
-    block-small = omega (arith, part-number (part_number p) o (part_below p), is.above, room.few-actions, part_below p)
+    block-small = omega (arith, part_most p o, is.above, room.few-actions)
 
     opened_in_lem : In Pₒ P.m v₀
     opened_in_lem =
@@ -484,7 +496,7 @@ module _ (text s : List ℕ) (few : length s ≤ 65536) where
         (read_back P₃.levels P.m v here.first here.second block-small (omega (arith, own-few x, room.few-actions))
         (bounded_small P₃.a P₃.q v.net (omega (arith, room.few-actions)) (omega (arith, room.few-operands, ops_both)) net)
         (omega (arith, own-unclosed-few x P.m Pₒ.m, room.few-operands, ops_both)))
-        ∙ part-owner (part_number p) o
+        ∙ part_owner p o
 
     closed-before : Before P₃ ℓ o
     closed-before =
@@ -540,7 +552,7 @@ module _ (text s : List ℕ) (few : length s ≤ 65536) where
         ∙ ap (λ z. puts z P₃.m vs) (put_puts P.levels P.m w ws)
         ∙ puts_joined (w ∷ ws) P.levels vs P.m P₃.m (omega (arith, length-map (opened_of P.a x) level_final, opened-count x P.a 0))
         ∙ (λ j. puts P.levels P.m
-        (record { block = part_entry p o j; actions = own j; net = run_from P.a v₀.net x; unclosed = none j }
+        (record { block = partEntry p o; actions = own j; net = run_from P.a v₀.net x; unclosed = none j }
         ∷ sym (map-append level_final (opened_of P.a x) (opened_in o P₃.a bs)) j))
         in
         λ j. record { actions = ja j; operands = jo j; levels = jl j; a = za j; q = zq j; m = zm j }
@@ -579,7 +591,7 @@ module _ (text s : List ℕ) (few : length s ≤ 65536) where
         let rest = block-events bs (waiting p os) k in
         handed (leading p os) (E.opened p ∷ events x (E.closed ∷ rest)) (at P ℓ o) (low-leading p os l)
         ∙ ap (run (events x (E.closed ∷ rest))) (opened-step P ℓ o p (words (events x (E.closed ∷ rest))))
-        ∙ of-items x (E.closed ∷ rest) (opens P p o) P.m o (fresh (part_of (part_number p) o)) (opened_in_lem P ℓ o is p x bs room) (room-inside P ℓ o is p x bs room) h.0 (stops-closed rest)
+        ∙ of-items x (E.closed ∷ rest) (opens P p o) P.m o (fresh (partEntry p o)) (opened_in_lem P ℓ o is p x bs room) (room-inside P ℓ o is p x bs room) h.0 (stops-closed rest)
         ∙ ap (run rest) (closed-step (P₃ P ℓ o is p x bs room) ℓ o P.m (last_of o P.a x) (words rest) (owner_back P ℓ o is p x bs room) (closed-before P ℓ o is p x bs room).owned)
         ∙ of_blocks bs (waiting p os) k (P₃ P ℓ o is p x bs room) ℓ o (closed-before P ℓ o is p x bs room) (room-closed P ℓ o is p x bs room) (low-waiting p os l) h.1 z
         ∙ ap (λ Q. run k (at Q ℓ o)) (block-after P ℓ o is p x bs room)

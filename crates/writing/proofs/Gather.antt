@@ -9,11 +9,11 @@ use native.Mathlib.Omega.{arith}
 use mir.Val.{bool_byte}
 use lib.ListN.{length, drop, get_or, set, drop_of_length-le, length-set}
 use lib.Seq.{sets, drop-cons}
-use borrow.Author.Tests.{eq-eqb, ne_eqb}
+use Rattle.events.specs.declared.BlockKind.{BlockKind}
 use Rattle.events.specs.declared.Event.{Event}
 use Rattle.events.specs.declared.Event.TheVariants as E
 use Rattle.events.specs.Log.{event_of}
-use Rattle.writing.specs.Writing.{deeper, gather_by, gather, unclosed_at, unclosed_of, given}
+use Rattle.writing.specs.Writing.{deeper, is_try, gather_by, gather, unclosed_at, unclosed_of, given}
 
 pub gather-deep : (d w : ℕ) (l : List ℕ) → 0 < d → gather d (w ∷ l) ≡ gather (deeper (event_of w) d) l
 gather-deep zero w l h = absurd (omega arith)
@@ -136,14 +136,14 @@ module _ (s log : List ℕ) (from a at : ℕ) (old new : List ℕ) (d end u i : 
             long = ap length e ∙ length-set new end (given s a t) ∙ g.long;
           }
 
-      pub tries : (p : ℕ) → v ≡ E.Opened p → p ≡ 1 → Giving s log from a at old new 1 end u (i + 1)
-      tries p f e = pass 1 (by (E.Opened p) f ∙ ap (λ b. cond b (gather 1 (drop (i + 1) log)) []) (eq-eqb p 1 e)) (omega arith)
+      pub tries : (b : BlockKind) → v ≡ E.Opened b → true ≡ is_try b → Giving s log from a at old new 1 end u (i + 1)
+      tries b f e = pass 1 (by (E.Opened b) f ∙ ap (λ q. cond q (gather 1 (drop (i + 1) log)) []) (sym e)) (omega arith)
 
       ended : gather d (drop i log) ≡ [] → Gave s log from a at old new end u
       ended z = finish s log from a at old new d end u i g z
 
-      pub opens : (p : ℕ) → v ≡ E.Opened p → (p ≡ 1 → ⊥) → Gave s log from a at old new end u
-      opens p f n = ended (by (E.Opened p) f ∙ ap (λ b. cond b (gather 1 (drop (i + 1) log)) []) (ne_eqb p 1 n))
+      pub opens : (b : BlockKind) → v ≡ E.Opened b → false ≡ is_try b → Gave s log from a at old new end u
+      opens b f e = ended (by (E.Opened b) f ∙ ap (λ q. cond q (gather 1 (drop (i + 1) log)) []) (sym e))
 
       stops : (q : Event) → v ≡ q → gather_by q (gather 0 (drop (i + 1) log)) (gather 1 (drop (i + 1) log)) ≡ [] → Gave s log from a at old new end u
       stops q f n = ended (by q f ∙ n)

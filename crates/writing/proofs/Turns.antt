@@ -9,6 +9,7 @@ use native.Mathlib.Omega.{arith}
 use lib.ListN.{length, drop, get_or, set, drop_of_length-le}
 use lib.Seq.{sets, drop-cons}
 use Rattle.names.specs.declared.ActionName.{ActionName}
+use Rattle.events.specs.declared.BlockKind.{BlockKind}
 use Rattle.events.specs.declared.Event.{Event}
 use Rattle.events.specs.declared.Event.TheVariants as E
 use Rattle.events.specs.Log.{event_of}
@@ -58,7 +59,7 @@ acted-is text s n rest xs os ls xs' os' ls' w g eo ee eu ex el =
       at = record { level = w.level; action = w.actions; actions = w.actions + 1; operands = ee j; levels = w.levels };
     }
 
-pub opened-is : (p : ℕ) (xs os ls ls' : List ℕ) (w r : Writer) → r ≡ opening w → ls' ≡ opened_in ls w p → written xs os ls' r ≡ opened p (written xs os ls w)
+pub opened-is : (p : BlockKind) (xs os ls ls' : List ℕ) (w r : Writer) → r ≡ opening w → ls' ≡ opened_in ls w p → written xs os ls' r ≡ opened p (written xs os ls w)
 unfolding written opened
 opened-is p xs os ls ls' w r er el = λ j. record { actions = xs; operands = os; levels = el j; at = er j }
 

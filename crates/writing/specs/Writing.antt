@@ -1,15 +1,18 @@
 -- What each event of a log writes into the lent tables. No public contract cites it.
-use Rattle.std.specs.Prelude.{◌≡◌, Bool, cond, List, [], ◌∷◌, map, ℕ, zero, suc, ◌+◌, ◌-◌, ◌*◌, ◌≤◌, eqb, length, get_or, set}
+use Rattle.std.specs.Prelude.{◌≡◌, Bool, true, false, cond, List, [], ◌∷◌, map, ℕ, zero, suc, ◌+◌, ◌-◌, ◌*◌, ◌≤◌, length, get_or, set}
 use Rattle.std.proofs.lemmas.List.Edits.{sets}
 use Rattle.names.specs.declared.ActionName.{ActionName}
 use Rattle.actions.specs.Numbers.{action_at}
 use Rattle.tokens.specs.Kinds.{is_unclosed}
 use Rattle.tokens.specs.Tokens.{token_of}
+use Rattle.events.specs.declared.BlockKind.{BlockKind}
+use Rattle.events.specs.declared.BlockKind.TheVariants as K
 use Rattle.events.specs.declared.Event.{Event}
 use Rattle.events.specs.declared.Event.TheVariants as E
 use Rattle.events.specs.Log.{event_of}
+use Rattle.entries.specs.declared.Block.{Block}
 use Rattle.entries.specs.declared.Block.TheVariants as B
-use Rattle.entries.specs.Entries.{action_word, action_of, operand_word, part_of, level_words, level_at, owner_of}
+use Rattle.entries.specs.Entries.{action_word, action_of, operand_word, level_words, level_at, owner_of}
 use Rattle.entries.specs.Levels.{fresh, with_action, Small}
 use Rattle.pcode.specs.Deltas.{delta_of}
 use Rattle.nets.specs.Nets.{first_is_empty, moved_by}
@@ -23,15 +26,21 @@ abbrev pub deeper : Event → ℕ → ℕ
 deeper (E.Action n) d = d
 deeper (E.Label t) d = d
 deeper (E.Operand t) d = d
-deeper (E.Opened p) d = d + 1
+deeper (E.Opened b) d = d + 1
 deeper E.Closed d = d - 1
 
--- an operand before the others; a try block (1) is passed over; any other event ends them
+abbrev pub is_try : BlockKind → Bool
+is_try K.Body = false
+is_try K.Try = true
+is_try K.Catch = false
+is_try K.Finally = false
+
+-- an operand before the others; a try block is passed over; any other event ends them
 abbrev pub gather_by : Event → List ℕ → List ℕ → List ℕ
 gather_by (E.Action n) next behind = []
 gather_by (E.Label t) next behind = []
 gather_by (E.Operand t) next behind = t ∷ next
-gather_by (E.Opened p) next behind = cond (eqb p 1) behind []
+gather_by (E.Opened b) next behind = cond (is_try b) behind []
 gather_by E.Closed next behind = []
 
 -- the operands of the action before these events: those that follow at once, and those that follow its try block, of which d
@@ -98,11 +107,18 @@ acted text s n rest T =
 abbrev pub opening : Writer → Writer
 opening w = record { level = w.levels; action = w.action; actions = w.actions; operands = w.operands; levels = w.levels + 1 }
 
-abbrev pub opened_in : List ℕ → Writer → ℕ → List ℕ
-opened_in levels w p = sets levels (2 * w.levels) (level_words (fresh (part_of p w.action)))
+-- which block of an action opens
+abbrev pub block_of : BlockKind → ℕ → Block
+block_of K.Body a = B.Body a
+block_of K.Try a = B.Try a
+block_of K.Catch a = B.Catch a
+block_of K.Finally a = B.Finally a
 
-unfoldable pub opened : ℕ → Written → Written
-opened p T = record { actions = T.actions; operands = T.operands; levels = opened_in T.levels T.at p; at = opening T.at }
+abbrev pub opened_in : List ℕ → Writer → BlockKind → List ℕ
+opened_in levels w b = sets levels (2 * w.levels) (level_words (fresh (block_of b w.action)))
+
+unfoldable pub opened : BlockKind → Written → Written
+opened b T = record { actions = T.actions; operands = T.operands; levels = opened_in T.levels T.at b; at = opening T.at }
 
 -- the action that owns a level
 abbrev pub owner_in : List ℕ → ℕ → ℕ
@@ -128,7 +144,7 @@ abbrev pub by : (text s : List ℕ) → Event → List ℕ → Written → Writt
 by text s (E.Action n) rest T = acted text s (action_at n) rest T
 by text s (E.Label t) rest T = T
 by text s (E.Operand t) rest T = T
-by text s (E.Opened p) rest T = opened p T
+by text s (E.Opened b) rest T = opened b T
 by text s E.Closed rest T = closed T
 
 unfoldable pub step : (text s : List ℕ) → ℕ → List ℕ → Written → Written

@@ -4,16 +4,15 @@
 
 ghost use Rattle.std.specs.Prelude.{◌≡◌, ◌+◌, ◌≤◌, ◌<◌, map, length, drop, get_or, set};
 ghost use Rattle.std.proofs.lemmas.List.Edits.{sets};
-ghost use Rattle.entries.specs.Entries.{part_of};
 ghost use Rattle.entries.specs.Levels.{Small};
-ghost use Rattle.writing.specs.Writing.{deeper, gather, unclosed_at, unclosed_of, given, Behind, written, moved_level, acted, opening, opened_in, closing, step, Writes};
+ghost use Rattle.writing.specs.Writing.{deeper, is_try, block_of, gather, unclosed_at, unclosed_of, given, Behind, written, moved_level, acted, opening, opened_in, closing, step, Writes};
 
 use actions::action_at;
 use entries::{
     Action, Block, Operand, action_in, add_action, level_at, open_level, owner_of, put_action,
     put_operand,
 };
-use events::{Event, event_of};
+use events::{BlockKind, Event, event_of};
 use names::ActionName;
 use nets::{first_is_empty, next_net};
 use tokens::is_unclosed;
@@ -38,6 +37,12 @@ fn deeper(event: Event, depth: usize) -> usize
         Event::Opened(_) => depth + 1,
         Event::Closed => depth - 1,
     }
+}
+
+fn is_try(kind: BlockKind) -> bool
+    ensures { result ≡ is_try kind }
+{
+    matches!(kind, BlockKind::Try)
 }
 
 // Whether the token at a place is a string without its closing quote.
@@ -102,8 +107,12 @@ fn give_operands(
                 unclosed += usize::from(is_unclosed);
                 end += 1;
             }
-            Event::Opened(1) => depth = 1,
-            Event::Opened(_) => return Given { end, unclosed },
+            Event::Opened(kind) => {
+                if !is_try(kind) {
+                    return Given { end, unclosed };
+                }
+                depth = 1;
+            }
             Event::Action(_) | Event::Label(_) | Event::Closed => return Given { end, unclosed },
         }
     }
@@ -168,24 +177,24 @@ fn act(
     }
 }
 
-// The block of an action that an event opens: its body, try, catch or finally block.
-fn block_of(part: u64, action: usize) -> Block
-    ensures { result ≡ part_of part action }
+// The block of an action that an event opens.
+fn block_of(kind: BlockKind, action: usize) -> Block
+    ensures { result ≡ block_of kind action }
 {
-    match part {
-        0 => Block::Body(action),
-        1 => Block::Try(action),
-        2 => Block::Catch(action),
-        _ => Block::Finally(action),
+    match kind {
+        BlockKind::Body => Block::Body(action),
+        BlockKind::Try => Block::Try(action),
+        BlockKind::Catch => Block::Catch(action),
+        BlockKind::Finally => Block::Finally(action),
     }
 }
 
-fn open(part: u64, w: Writer, levels: &mut [u64]) -> Writer
+fn open(kind: BlockKind, w: Writer, levels: &mut [u64]) -> Writer
     requires { Behind 65536 w }
     ensures value { result ≡ opening w }
-    ensures levels_after { levels.new ≡ opened_in levels.old w part }
+    ensures levels_after { levels.new ≡ opened_in levels.old w kind }
 {
-    open_level(levels, w.levels, block_of(part, w.action));
+    open_level(levels, w.levels, block_of(kind, w.action));
     Writer {
         level: w.levels,
         action: w.action,
@@ -235,7 +244,7 @@ fn write_event(
             act(text, s, log, i + 1, name, w, actions, operands, levels)
         }
         Event::Label(_) | Event::Operand(_) => w,
-        Event::Opened(part) => open(part, w, levels),
+        Event::Opened(kind) => open(kind, w, levels),
         Event::Closed => close(w, actions, levels),
     }
 }

@@ -4,7 +4,7 @@ use native.Mathlib.Omega.{arith}
 use Rattle.events.specs.Log.{Holds}
 use Rattle.writing.proofs.Gather.{begins, passes, flag_at_most, one_more, gives, tries, opens, others, ends}
 use Rattle.writing.proofs.give_operands.Goals as goal
-use Rattle.writing.proofs.give_operands.Goals.{in-Operand, in-Opened-eq1}
+use Rattle.writing.proofs.give_operands.Goals.{in-Operand, in-Opened+else-not-is_try}
 
 pub loop-i-init : goal.loop-i-init
 loop-i-init c =
@@ -38,15 +38,14 @@ loop-i-preserved c =
           (gives _ _ _ _ _ _ _ _ _ _ _ c.loop-i.invariant c.loop-i-test.true _ c.event_of-event.ensures.value c.if-depth-gt0.false _ w.in-Operand.is _
           w.give_operand-is_unclosed.ensures.operands_after _ w.give_operand-is_unclosed.ensures.value _
           (one_more c.loop-i.unclosed w.from-unclosed.result _ w.from-unclosed.ensures))
-      | in-Opened-eq1 w ↦
+      | in-Opened+else-not-is_try w ↦
           rw (w.operands-is, w.depth-is, w.end-is, w.unclosed-is)
-          (tries _ _ _ _ _ _ _ _ _ _ _ c.loop-i.invariant c.loop-i-test.true _ c.event_of-event.ensures.value c.if-depth-gt0.false _ w.in-Opened-eq1.is
-          (sym w.in-Opened-eq1.field-0-is ∙ w.in-Opened-eq1.field-0-test))
+          (tries _ _ _ _ _ _ _ _ _ _ _ c.loop-i.invariant c.loop-i-test.true _ c.event_of-event.ensures.value c.if-depth-gt0.false _ w.in-Opened.is (sym w.if-not-is_try.false ∙ w.is_try.ensures))
     ]
 
-pub returns-in-Opened : goal.returns-in-Opened
-returns-in-Opened c =
-    let got = opens _ _ _ _ _ _ _ _ _ _ _ c.loop-i.invariant c.loop-i-test.true _ c.event_of-event.ensures.value c.if-depth-gt0.false _ c.in-Opened.is (λ e. c.in-Opened.field-0-test.1 (c.in-Opened.field-0-is ∙ e)) in
+pub returns-then-not-is_try : goal.returns-then-not-is_try
+returns-then-not-is_try c =
+    let got = opens _ _ _ _ _ _ _ _ _ _ _ c.loop-i.invariant c.loop-i-test.true _ c.event_of-event.ensures.value c.if-depth-gt0.false _ c.in-Opened.is (sym c.if-not-is_try.true ∙ c.is_try.ensures) in
     record { operands_after = got.0; end_value = got.1.0; unclosed_value = got.1.1.0; unclosed_bound = got.1.1.1 }
 
 pub returns-in-Action : goal.returns-in-Action
