@@ -20,6 +20,7 @@ fn print_delta(rt: HostRuntime, a: ActionName) {
     print_signed(rt, d);
 }
 
+// Two lines as in `listing`, which stands above what this program needs.
 fn print_name(rt: HostRuntime, a: ActionName) {
     let letters = words::LETTERS;
     print_text(rt, words::spelling(&letters, a));

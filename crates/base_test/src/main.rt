@@ -86,6 +86,7 @@ const WRITTEN: [Written; 11] = [
     },
 ];
 
+// No From could ask for these bounds, as `tokens::word_of` does; each case keeps them.
 fn word_of(w: Written) -> u64 {
     if 65536 < w.start || 65536 < w.end {
         return 0;
@@ -148,6 +149,7 @@ fn print_raw(rt: HostRuntime, bounds: Span) {
 
 // ---- deltas
 
+// The bool is what `pcode::delta` is asked with: each value of `values` goes with either.
 #[derive(Clone, Copy)]
 struct Given {
     action: ActionName,

@@ -9,6 +9,7 @@ use entry_reading::read_entries;
 use label_entries::{find_label, label_at};
 use printing::{print_number, print_refusal, print_text};
 
+// Two lines as in `held_test`: shared, they would be a public function for two tests.
 fn print_field(rt: HostRuntime, n: usize) {
     print_text(rt, b" ");
     print_number(rt, n as u64);
@@ -21,6 +22,7 @@ fn print_label(rt: HostRuntime, label: Label) {
     print_field(rt, label.position);
 }
 
+// As in `held_test`, too: `Counts` is a type of `handover`, which prints nothing, and `printing` stands below it.
 fn print_counts(rt: HostRuntime, c: Counts) {
     print_text(rt, b"read");
     print_field(rt, c.tokens);

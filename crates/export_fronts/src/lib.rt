@@ -131,7 +131,7 @@ pub fn are_marked(left: Left) -> bool {
         && is_marked_from(left.out, 0)
 }
 
-// Whether two calls filled the tables alike.
+// Whether two calls filled the tables alike. An == of the structs would compare the outputs too, which are not always there.
 pub fn same_tables(a: Left, b: Left) -> bool {
     a.tokens == b.tokens
         && a.actions == b.actions

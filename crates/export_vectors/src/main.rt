@@ -406,6 +406,7 @@ fn hold(
 
 fn replay(rt: HostRuntime, list: &[u8], counts: &mut [u64; 23]) {
     let mut at = 0;
+    // each turn takes as much as was read: no range or iterator gives these steps
     while at < list.len() {
         let r = records::record_at(list, at);
         let start = r.start;

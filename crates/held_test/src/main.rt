@@ -78,11 +78,13 @@ fn read_determined(text: &[u8], tables: &mut Tables) -> Result<Counts, Refusal>
 
 // ---- the texts
 
+// Two lines as in `entries_test`: shared, they would be a public function for two tests.
 fn print_field(rt: HostRuntime, n: usize) {
     print_text(rt, b" ");
     print_number(rt, n as u64);
 }
 
+// As in `entries_test`, too: `Counts` is a type of `handover`, which prints nothing, and `printing` stands below it.
 fn print_counts(rt: HostRuntime, c: Counts) {
     print_text(rt, b"read");
     print_field(rt, c.tokens);

@@ -18,7 +18,7 @@ fn number_at(list: &[u8], at: usize) -> u64 {
     }
 }
 
-// Whether the token of a word is the one that the list starts with.
+// Whether the token of a word is the one that the list starts with: numbers, with a String's kind as the Rust has it, so no ==.
 fn same_token(list: &[u8], word: u64) -> bool {
     let token = tokens::token_of(word);
     number_at(list, 0) == records::rust_kind(token.kind)
@@ -48,7 +48,7 @@ fn same_answer(text: &[u8], answer: u64, count: u64, list: &[u8]) -> bool {
     }
 }
 
-// What a record says of lexing, and where the next one starts.
+// What a record says of lexing, and where the next one starts, which holds whatever `good` says: no Option is meant.
 #[derive(Clone, Copy)]
 struct Judged {
     next: usize,
@@ -120,6 +120,7 @@ fn replay(rt: HostRuntime, list: &[u8]) {
     let mut at = 0;
     let mut texts: u64 = 0;
     let mut good: u64 = 0;
+    // each turn takes as much as was read: no range or iterator gives these steps
     while at < list.len() {
         let j = judge(list, at);
         good += counted(rt, j.good, texts);

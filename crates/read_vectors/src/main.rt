@@ -82,6 +82,7 @@ fn hold(rt: HostRuntime, list: &[u8], stop: usize, next: usize, text: &[u8], tot
 fn replay(rt: HostRuntime, list: &[u8]) -> Totals {
     let mut totals = Totals::default();
     let mut at = 0;
+    // each turn takes as much as was read: no range or iterator gives these steps
     while at < list.len() {
         let r = records::record_at(list, at);
         hold(

@@ -12,7 +12,7 @@ use tokens::TokenKind;
 
 // ---- numbers
 
-// A number, and where the next one starts.
+// A number, and where the next one starts: a tuple would leave the clauses `.0` and `.1` for these.
 #[derive(Clone, Copy)]
 struct Taken {
     value: u64,

@@ -45,6 +45,7 @@ fn print_value(rt: HostRuntime, answer: Result<PushValue, Refusal>) {
     }
 }
 
+// Apart from `print_integer`: `print_number` and `print_signed` are two functions, and one generic would be lent which.
 fn print_natural(rt: HostRuntime, n: Option<u64>) {
     match n {
         Some(k) => print_number(rt, k),
