@@ -1,9 +1,10 @@
 -- The tests of the token at a place are those of the grammar. Assumes nothing.
 use mathlib.Core.Path.{◌≡◌, refl, sym, ap, ◌∙◌, subst}
-use mathlib.Core.Bool.{Bool, true, false, cond, ◌&&◌, ◌||◌, true≢false, false≢true}
+use mathlib.Core.Logic.{◌⊎◌, inl, inr}
+use mathlib.Core.Bool.{Bool, true, false, cond, ◌&&◌, true≢false, false≢true}
 use mathlib.Core.List.{List, []}
 use mathlib.Core.Option.{Option, none, some}
-use Prim.Native.Nat.{ℕ, ◌≤◌, ◌<◌}
+use Prim.Native.Nat.{ℕ, ◌/◌, ◌≤◌, ◌<◌}
 use native.Mathlib.Omega.{arith}
 use lib.Dec.{T, eqb, ltb}
 use lib.IntN.{ℤ, pos, negsuc, nat_abs}
@@ -12,7 +13,7 @@ use mir.Syntax.{w32, w64}
 use mir.Val.{Fits, SFits, to_z, of_z}
 use mir.ValLaws.{to_z-of_z}
 use lib.ListN.{length, get_or}
-use borrow.Author.Tests.{ltb-true, ltb-false, lt-ltb, le-ltb, eq-eqb, ne_eqb}
+use borrow.Author.Tests.{ltb-true, ltb-false, eqb-true, eqb-false, lt-ltb, le-ltb, ne_eqb}
 use Rattle.std.specs.Prelude.{Some, None, Result, Ok, Err, is_ok}
 use Rattle.std.specs.Prelude as Std
 use Rattle.answers.specs.declared.Refusal.{Refusal}
@@ -22,7 +23,7 @@ use Rattle.tokens.specs.declared.TokenKind.{TokenKind}
 use Rattle.tokens.specs.declared.TokenKind.TheVariants as K
 use Rattle.tokens.specs.declared.Span.{Span}
 use Rattle.tokens.specs.declared.Token.{Token}
-use Rattle.tokens.specs.Kinds.{code_of, is_kind}
+use Rattle.tokens.specs.Kinds.{code_of, is_kind, kind_number}
 use Rattle.tokens.specs.Tokens.{token_of, within, part, raw_text}
 use Rattle.numbers.specs.declared.Double.{Double}
 use Rattle.numbers.specs.declared.Double.TheVariants as D
@@ -31,9 +32,43 @@ use Rattle.numbers.specs.Doubles.{double}
 use Rattle.values.specs.declared.PushValue.{PushValue}
 use Rattle.values.specs.Values.{double_or_long, float_value, integer_or, integer_value, push_value, or_six, value_answer, answer, integer_text, i32_of}
 use Rattle.lexemes.specs.Operands.{is_some}
+use Rattle.lexemes.proofs.Tests.{bare}
+use Rattle.lexemes.proofs.Tests as Tests
 use Rattle.classes.specs.declared.Class.{Class}
 use Rattle.classes.specs.declared.Class.TheVariants as C
 use Rattle.classes.specs.Lexemes.{Sound, kind_at, class_at, fits_at, acting_as, count_at, is_count_at}
+
+-- ---- kinds
+
+-- a kind that is not one that carries nothing
+other-bare : (k c : TokenKind) → bare c ≡ true → (k ≡ c → ⊥) → is_kind k c ≡ false
+other-bare k c g h = by (is_kind k c) refl
+  where
+    by : (b : Bool) → is_kind k c ≡ b → is_kind k c ≡ false
+    by true e = absurd (h (Tests.kind-is k c e g))
+    by false e = e
+
+-- a kind that is no string, and one that is no register
+other-carrying : (k : TokenKind) → (((x : Bool) → k ≡ K.String x → ⊥) → is_kind k (K.String true) ≡ false) × (((n : ℕ) → k ≡ K.Register n → ⊥) → is_kind k (K.Register 0) ≡ false)
+other-carrying K.Newline = (λ h. refl, λ h. refl)
+other-carrying (K.String x) = (λ h. absurd (h x refl), λ h. refl)
+other-carrying K.Float = (λ h. refl, λ h. refl)
+other-carrying K.Integer = (λ h. refl, λ h. refl)
+other-carrying (K.Register n) = (λ h. refl, λ h. absurd (h n refl))
+other-carrying (K.Constant n) = (λ h. refl, λ h. refl)
+other-carrying (K.ActionName a) = (λ h. refl, λ h. refl)
+other-carrying K.Identifier = (λ h. refl, λ h. refl)
+other-carrying K.Colon = (λ h. refl, λ h. refl)
+other-carrying K.Comma = (λ h. refl, λ h. refl)
+other-carrying K.OpenBrace = (λ h. refl, λ h. refl)
+other-carrying K.CloseBrace = (λ h. refl, λ h. refl)
+other-carrying K.True = (λ h. refl, λ h. refl)
+other-carrying K.False = (λ h. refl, λ h. refl)
+other-carrying K.Null = (λ h. refl, λ h. refl)
+other-carrying K.Undefined = (λ h. refl, λ h. refl)
+other-carrying K.Catch = (λ h. refl, λ h. refl)
+other-carrying K.Finally = (λ h. refl, λ h. refl)
+other-carrying K.Unknown = (λ h. refl, λ h. refl)
 
 -- ---- the kind's place
 
@@ -45,8 +80,21 @@ pub kind_past : (s : List ℕ) (at : ℕ) → length s ≤ at → 99 ≡ kind_at
 unfolding kind_at
 kind_past s at h = rw (le-ltb at (length s) h)
 
-pub kind-is : (s : List ℕ) (at : ℕ) {r : ℕ} → at < length s → r ≡ (code_of (token_of (get_or s at 0)).kind).place → r ≡ kind_at s at
-kind-is s at h e = e ∙ sym (kind-inside s at h)
+pub kind_same : (s : List ℕ) (at : ℕ) (k : TokenKind) (p n : ℕ) → at < length s → p ≡ (code_of (token_of (get_or s at 0)).kind).place → n ≡ kind_number k →
+    eqb p (n / 65536) ≡ eqb (kind_at s at) (kind_number k / 65536)
+kind_same s at k p n h e q = rw (kind-inside s at h, e, q) refl
+
+pub no-kind : (s : List ℕ) (at : ℕ) (k : TokenKind) (n : ℕ) → length s ≤ at → n ≡ kind_number k → n < 2097152 → ltb at (length s) ≡ eqb (kind_at s at) (kind_number k / 65536)
+no-kind s at k n h q l =
+    rw (le-ltb at (length s) h, sym (kind_past s at h))
+    (sym (ne_eqb 99 (kind_number k / 65536) (λ z. omega (arith, q, l, z))))
+
+-- what the test told
+pub kind-told : {b : Bool} {n m : ℕ} → b ≡ eqb n m → b ≡ true → n ≡ m
+kind-told {n = n} {m = m} e z = eqb-true n m (sym e ∙ z)
+
+pub kind-untold : {b : Bool} {n m : ℕ} → b ≡ eqb n m → b ≡ false → n ≡ m → ⊥
+kind-untold {n = n} {m = m} e z = eqb-false n m (sym e ∙ z)
 
 -- ---- values
 
@@ -131,36 +179,44 @@ pub none-fits : (m : Class) (text s : List ℕ) (at : ℕ) → length s ≤ at �
 none-fits m text s at h = sym (fits_past m text s at h)
 
 module _ (m : Class) (text s : List ℕ) (at : ℕ) (h : at < length s) where
-  -- by the kind's place alone
-  module _ (k : ℕ) (e : k ≡ kind_at s at) where
-    place_is : (code_of (token_of (get_or s at 0)).kind).place ≡ k
-    place_is = sym (kind-inside s at h) ∙ sym e
+  -- by its kind alone
+  module _ (t : Token) (et : t ≡ token_of (get_or s at 0)) where
+    by_kind : (b : Bool) (n : Class) → m ≡ n → b ≡ class_at n text s at → b ≡ fits_at m text s at
+    by_kind b n q e = rw (q, fits-inside n text s at h) e
 
-    pub string-fits : m ≡ C.String → eqb k 1 ≡ fits_at m text s at
+    pub string-fits : (x : Bool) → m ≡ C.String → t.kind ≡ K.String x → true ≡ fits_at m text s at
     unfolding class_at
-    string-fits q = rw (q, fits-inside C.String text s at h, place_is)
+    string-fits x q p = by_kind true C.String q (rw (sym et, p) refl)
 
-    pub identifier-fits : m ≡ C.Identifier → eqb k 7 ≡ fits_at m text s at
+    pub no-string-fits : m ≡ C.String → ((x : Bool) → t.kind ≡ K.String x → ⊥) → false ≡ fits_at m text s at
     unfolding class_at
-    identifier-fits q = rw (q, fits-inside C.Identifier text s at h, place_is)
+    no-string-fits q p = by_kind false C.String q (rw (sym et, (other-carrying t.kind).0 p) refl)
 
-    module _ (q : m ≡ C.Bool) where
-      pub true-fits : k ≡ 12 → eqb k 12 ≡ fits_at m text s at
-      unfolding class_at
-      true-fits p = rw (q, fits-inside C.Bool text s at h, place_is, eq-eqb k 12 p)
+    pub identifier-fits : m ≡ C.Identifier → t.kind ≡ K.Identifier → true ≡ fits_at m text s at
+    unfolding class_at
+    identifier-fits q p = by_kind true C.Identifier q (rw (sym et, p) refl)
 
-      pub false-fits : (k ≡ 12 → ⊥) → eqb k 13 ≡ fits_at m text s at
-      unfolding class_at
-      false-fits p = rw (q, fits-inside C.Bool text s at h, place_is, ne_eqb k 12 p)
+    pub no-identifier-fits : m ≡ C.Identifier → (t.kind ≡ K.Identifier → ⊥) → false ≡ fits_at m text s at
+    unfolding class_at
+    no-identifier-fits q p = by_kind false C.Identifier q (rw (sym et, other-bare t.kind K.Identifier refl p) refl)
 
-    module _ (q : m ≡ C.Target) where
-      pub named-fits : k ≡ 1 → eqb k 1 ≡ fits_at m text s at
-      unfolding class_at
-      named-fits p = rw (q, fits-inside C.Target text s at h, place_is, eq-eqb k 1 p)
+    pub bool-fits : m ≡ C.Bool → (t.kind ≡ K.True) ⊎ (t.kind ≡ K.False) → true ≡ fits_at m text s at
+    unfolding class_at
+    bool-fits q (inl p) = by_kind true C.Bool q (rw (sym et, p) refl)
+    bool-fits q (inr p) = by_kind true C.Bool q (rw (sym et, p) refl)
 
-      pub stored-fits : (k ≡ 1 → ⊥) → eqb k 4 ≡ fits_at m text s at
-      unfolding class_at
-      stored-fits p = rw (q, fits-inside C.Target text s at h, place_is, ne_eqb k 1 p)
+    pub no-bool-fits : m ≡ C.Bool → (t.kind ≡ K.True → ⊥) → (t.kind ≡ K.False → ⊥) → false ≡ fits_at m text s at
+    unfolding class_at
+    no-bool-fits q p r = by_kind false C.Bool q (rw (sym et, other-bare t.kind K.True refl p, other-bare t.kind K.False refl r) refl)
+
+    pub target-fits : m ≡ C.Target → ((x : Bool) × (t.kind ≡ K.String x)) ⊎ ((n : ℕ) × (t.kind ≡ K.Register n)) → true ≡ fits_at m text s at
+    unfolding class_at
+    target-fits q (inl p) = by_kind true C.Target q (rw (sym et, p.1) refl)
+    target-fits q (inr p) = by_kind true C.Target q (rw (sym et, p.1) refl)
+
+    pub no-target-fits : m ≡ C.Target → ((x : Bool) → t.kind ≡ K.String x → ⊥) → ((n : ℕ) → t.kind ≡ K.Register n → ⊥) → false ≡ fits_at m text s at
+    unfolding class_at
+    no-target-fits q p r = by_kind false C.Target q (rw (sym et, (other-carrying t.kind).0 p, (other-carrying t.kind).1 r) refl)
 
   -- by what the token is worth
   module _ (t : Token) (et : t ≡ token_of (get_or s at 0)) (b : Bool) where

@@ -1,11 +1,12 @@
 // What an operand may be, and whether the token at a place is that.
 #![tactic(auto)]
 
-ghost use Rattle.std.specs.Prelude.{◌≡◌, ◌||◌, eqb, ◌<◌, length, Some};
+ghost use Rattle.std.specs.Prelude.{◌≡◌, ◌/◌, eqb, Some};
+ghost use Rattle.tokens.specs.Kinds.{kind_number};
 ghost use Rattle.classes.specs.declared.Class.TheVariants as C;
 ghost use Rattle.classes.specs.Lexemes.{Sound, kind_at, class_at, fits_at, acting_as, count_at, is_count_at};
 
-use tokens::{kind_place, token_of};
+use tokens::{TokenKind, kind_number, kind_place, token_of};
 use values::{i32_of, u8_of, u16_of, value};
 
 // What an operand may be.
@@ -20,22 +21,13 @@ pub enum Class {
     Target,
 }
 
-// Places of kinds in `TokenKind`.
-const STRING: u64 = 1;
-
-const REGISTER: u64 = 4;
-
-const IDENTIFIER: u64 = 7;
-
-const TRUE: u64 = 12;
-
-const FALSE: u64 = 13;
-
-// The place of a token's kind in `TokenKind`; 99 at the end.
-pub fn kind_at(s: &[u64], at: usize) -> u64
-    ensures { result ≡ kind_at s.now at }
+// Whether the token at `at` is of that kind, whatever it carries.
+#[inline]
+pub fn is_kind_at(s: &[u64], at: usize, kind: TokenKind) -> bool
+    ensures { result ≡ eqb (kind_at s.now at) (kind_number kind / 65536) }
 {
-    if at < s.len() { kind_place(s[at]) } else { 99 }
+    let place = kind_number(kind) / 65536;
+    at < s.len() && kind_place(s[at]) == place
 }
 
 // Whether the token at `at` is such an operand.
@@ -47,15 +39,14 @@ pub fn fits_at(text: &[u8], s: &[u64], at: usize, m: Class) -> bool
         return false;
     }
     let t = token_of(s[at]);
-    let k = kind_at(s, at);
     match m {
-        Class::String => k == STRING,
+        Class::String => matches!(t.kind, TokenKind::String(_)),
         Class::Value => value(text, t).is_ok(),
-        Class::Bool => k == TRUE || k == FALSE,
+        Class::Bool => matches!(t.kind, TokenKind::True | TokenKind::False),
         Class::U8 => u8_of(text, t).is_some(),
         Class::U16 => u16_of(text, t).is_some(),
-        Class::Identifier => k == IDENTIFIER,
-        Class::Target => k == STRING || k == REGISTER,
+        Class::Identifier => matches!(t.kind, TokenKind::Identifier),
+        Class::Target => matches!(t.kind, TokenKind::String(_) | TokenKind::Register(_)),
     }
 }
 

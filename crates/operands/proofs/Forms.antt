@@ -34,7 +34,7 @@ use Rattle.classes.specs.Lexemes.{lexeme_of, kind_at, class_of, class_at, fits_a
 use Rattle.events.specs.Log.{log_word}
 use Rattle.operands.specs.Log.{Log, log, passed, logged}
 use Rattle.operands.specs.Contract.{judge, outcome, Fine, Ahead, Reads, nothing, at-end as action-ends, OperandRead, CommaRead, NextRead, TwoRead, ThreeRead, repeated, RepeatRead, paired, PairRead, PairsRead, NameRead, CountRead, NamesRead, FunctionRead, FlagsRead, FlagsPairsRead, RegistersRead, Function2Read, FrameRead, ValuesRead, ListRead, left, OperandsRead}
-use Rattle.classes.proofs.OneToken.{kind-inside, fits-inside, fits-there, count-inside, is-count-inside, is-count-there}
+use Rattle.classes.proofs.OneToken.{kind-inside, fits-inside, fits-there, count-inside, is-count-inside, is-count-there, kind-told, kind-untold}
 use Rattle.operands.proofs.Places.{at-step, at-stop, at-end, past_same}
 use Rattle.operands.proofs.Runs.{passed-fine, passed_on, logged_on, further_on, kind-there, on_to, refusal, then, fails, framed, both, first_fails, stays, loop-start, loop-then, loop-ends}
 
@@ -246,17 +246,17 @@ module _ (text s : List ℕ) (at : ℕ) (σ : List Symbol) (n : ℕ) (L : Log) w
           let i = ltb-false at (length s) q in
           at-end text s at flag σ n L i refl ∙ sym (at-end text s at (operand bool) (mark p_comma ∷ operand bool ∷ σ) n L i refl)
 
-pub frame_biased : (text s a b b' : List ℕ) (c d : At) (k : ℕ) (z : Result At Unread) → k ≡ kind_at s c.at → TwoRead C.Bool C.Bool text s a b c (Ok d) → k ≡ 12 → NextRead C.U16 text s b b' d z →
+pub frame_biased : (text s a b b' : List ℕ) (c d : At) (k : Bool) (z : Result At Unread) → k ≡ eqb (kind_at s c.at) 12 → TwoRead C.Bool C.Bool text s a b c (Ok d) → k ≡ true → NextRead C.U16 text s b b' d z →
     FrameRead text s a b' c z
 unfolding outcome
 frame_biased text s a b b' c d k z e v y w =
     record {
-      says = λ x σ n. flag_true text s c.at σ n (log a c) (sym e ∙ y) ∙ v.says x (mark p_comma ∷ operand u16 ∷ σ) n ∙ w.says x σ n;
+      says = λ x σ n. flag_true text s c.at σ n (log a c) (kind-told e y) ∙ v.says x (mark p_comma ∷ operand u16 ∷ σ) n ∙ w.says x σ n;
       ahead = further_on text s c d z (on_to text s a b c d v) w.ahead;
     }
 
-pub frame-plain : (text s a b : List ℕ) (c d : At) (k : ℕ) → k ≡ kind_at s c.at → TwoRead C.Bool C.Bool text s a b c (Ok d) → (k ≡ 12 → ⊥) → FrameRead text s a b c (Ok d)
-frame-plain text s a b c d k e v y = record { says = λ x σ n. flag_false text s c.at σ n (log a c) (λ q. y (e ∙ q)) ∙ v.says x σ n; ahead = v.ahead }
+pub frame-plain : (text s a b : List ℕ) (c d : At) (k : Bool) → k ≡ eqb (kind_at s c.at) 12 → TwoRead C.Bool C.Bool text s a b c (Ok d) → k ≡ false → FrameRead text s a b c (Ok d)
+frame-plain text s a b c d k e v y = record { says = λ x σ n. flag_false text s c.at σ n (log a c) (kind-untold e y) ∙ v.says x σ n; ahead = v.ahead }
 
 pub frame-bad : (text s a b : List ℕ) (c : At) (u : Unread) → TwoRead C.Bool C.Bool text s a b c (Err u) → FrameRead text s a b c (Err u)
 frame-bad text s a b c u v = record { says = λ x σ n. by (eqb (kind_at s c.at) 12) refl x σ n; ahead = v.ahead }
@@ -322,31 +322,31 @@ Listing m text s a b c p = Reads (in_list m) (in_list m) text s a b c (Ok p)
 pub values-start : (text s a : List ℕ) (c : At) (m : Class) → Fine text s c → Listing m text s a a c c
 values-start text s a c m f = stays (in_list m) text s a c f
 
-values-then : (text s a b b' : List ℕ) (c p d : At) (m : Class) (k : ℕ) (r : Result At Unread) → Listing m text s a b c p → k ≡ kind_at s p.at → k ≡ 9 → Fine text s p → d ≡ passed p →
+values-then : (text s a b b' : List ℕ) (c p d : At) (m : Class) (k : Bool) (r : Result At Unread) → Listing m text s a b c p → k ≡ eqb (kind_at s p.at) 9 → k ≡ true → Fine text s p → d ≡ passed p →
     OperandRead m text s b b' d r → Reads (in_list m) (in_list m) text s a b' c r
 unfolding outcome Ahead
 values-then text s a b b' c p d m k r v e z g q w =
     let w' : OperandRead m text s b b' (passed p) r = subst (λ (y : At). OperandRead m text s b b' y r) q w in
-    let i = kind-there s p.at 9 (sym e ∙ z) (omega arith) in
+    let i = kind-there s p.at 9 (kind-told e z) (omega arith) in
     record {
-      says = λ x σ n. v.says x σ n ∙ list_comma text s p.at x m σ n (log b p) (sym e ∙ z) ∙ w'.says x (level x (list₁ (class_of m)) ∷ σ) n;
+      says = λ x σ n. v.says x σ n ∙ list_comma text s p.at x m σ n (log b p) (kind-told e z) ∙ w'.says x (level x (list₁ (class_of m)) ∷ σ) n;
       ahead = further_on text s c p r v.ahead (further_on text s p (passed p) r (passed_on text s p g i) w'.ahead);
     }
 
-pub values-next : (text s a b b' : List ℕ) (c p d q : At) (m : Class) (k : ℕ) → Listing m text s a b c p → k ≡ kind_at s p.at → k ≡ 9 → Fine text s p → d ≡ passed p →
+pub values-next : (text s a b b' : List ℕ) (c p d q : At) (m : Class) (k : Bool) → Listing m text s a b c p → k ≡ eqb (kind_at s p.at) 9 → k ≡ true → Fine text s p → d ≡ passed p →
     OperandRead m text s b b' d (Ok q) → Listing m text s a b' c q
 values-next text s a b b' c p d q m k v e z g y w = values-then text s a b b' c p d m k (Ok q) v e z g y w
 
-pub values-bad : (text s a b b' : List ℕ) (c p d : At) (m : Class) (k : ℕ) (u : Unread) → Listing m text s a b c p → k ≡ kind_at s p.at → k ≡ 9 → Fine text s p → d ≡ passed p →
+pub values-bad : (text s a b b' : List ℕ) (c p d : At) (m : Class) (k : Bool) (u : Unread) → Listing m text s a b c p → k ≡ eqb (kind_at s p.at) 9 → k ≡ true → Fine text s p → d ≡ passed p →
     OperandRead m text s b b' d (Err u) → ValuesRead m text s a b' c (Err u)
 values-bad text s a b b' c p d m k u v e z g y w = fails (in_list m) (in_list m) action-ends text s a b' c u (values-then text s a b b' c p d m k (Err u) v e z g y w)
 
-pub values-end : (text s a b : List ℕ) (c p : At) (m : Class) (k : ℕ) → Listing m text s a b c p → k ≡ kind_at s p.at → (k ≡ 9 → ⊥) → ValuesRead m text s a b c (Ok p)
+pub values-end : (text s a b : List ℕ) (c p : At) (m : Class) (k : Bool) → Listing m text s a b c p → k ≡ eqb (kind_at s p.at) 9 → k ≡ false → ValuesRead m text s a b c (Ok p)
 unfolding outcome
-values-end text s a b c p m k v e z = record { says = λ x σ n. v.says x σ n ∙ list_ends text s p.at x m σ n (log b p) (λ y. z (e ∙ y)); ahead = v.ahead }
+values-end text s a b c p m k v e z = record { says = λ x σ n. v.says x σ n ∙ list_ends text s p.at x m σ n (log b p) (kind-untold e z); ahead = v.ahead }
 
-pub values_past : (text s : List ℕ) (p d : At) (k : ℕ) → Fine text s p → k ≡ kind_at s p.at → k ≡ 9 → d ≡ passed p → Fine text s d
-values_past text s p d k g e z q = rw q (passed-fine text s p g (kind-there s p.at 9 (sym e ∙ z) (omega arith)))
+pub values_past : (text s : List ℕ) (p d : At) (k : Bool) → Fine text s p → k ≡ eqb (kind_at s p.at) 9 → k ≡ true → d ≡ passed p → Fine text s d
+values_past text s p d k g e z q = rw q (passed-fine text s p g (kind-there s p.at 9 (kind-told e z) (omega arith)))
 
 pub values_less : (text s b b' : List ℕ) (p d q : At) (m : Class) → OperandRead m text s b b' d (Ok q) → d ≡ passed p → length s - q.at < length s - p.at
 values_less text s b b' p d q m w e =

@@ -4,7 +4,7 @@ use mathlib.Core.Bool.{Bool, true, false}
 use mathlib.Core.List.{List, [], ◌∷◌, ◌++◌, append_assoc}
 use Prim.Native.Nat.{ℕ, suc, ◌+◌, ◌-◌, ◌≤◌, ◌<◌}
 use native.Mathlib.Omega.{arith}
-use lib.Dec.{ltb}
+use lib.Dec.{eqb, ltb}
 use lib.ListN.{length, get_or, set}
 use borrow.Author.Tests.{ltb-true, ltb-false, ne_eqb}
 use Rattle.std.specs.Prelude.{Result, Ok, Err, IsErrAnd}
@@ -24,7 +24,7 @@ use Rattle.classes.specs.Lexemes.{lexeme_of, kind_at, class_of, class_at, fits_a
 use Rattle.events.specs.Log.{log_word}
 use Rattle.operands.specs.Log.{Log, log, passed, logged}
 use Rattle.operands.specs.Contract.{judge, outcome, Fine, Onward, Ahead, Reads, Passes, nothing, OperandRead, CommaRead, NextRead}
-use Rattle.classes.proofs.OneToken.{kind-inside, kind_past, fits-inside, fits-there}
+use Rattle.classes.proofs.OneToken.{kind-inside, kind_past, fits-inside, fits-there, kind-told, kind-untold}
 use Rattle.operands.proofs.Places.{at-step, at-stop, at-end}
 
 -- what a `?` returns is what it met
@@ -194,11 +194,11 @@ mark-bad p text s c f e = record { with_log = λ a. record { says = λ n σ k. b
         at-stop text s c.at (mark p) σ k L i (mark-stop p c.at (token_of (get_or s c.at 0)).kind (raw_text text (token_of (get_or s c.at 0))) (λ z. e (kind-inside s c.at i ∙ z)))
     by false q σ k L = at-end text s c.at (mark p) σ k L (ltb-false c.at (length s) q) refl
 
-pub comma_ok : (text s : List ℕ) (c d : At) (n : ℕ) → Fine text s c → n ≡ kind_at s c.at → n ≡ 9 → d ≡ passed c → CommaRead text s c (Ok d)
-comma_ok text s c d n f e z q = mark_ok p_comma text s c d f (sym e ∙ z) (omega arith) q
+pub comma_ok : (text s : List ℕ) (c d : At) (n : Bool) → Fine text s c → n ≡ eqb (kind_at s c.at) 9 → n ≡ true → d ≡ passed c → CommaRead text s c (Ok d)
+comma_ok text s c d n f e z q = mark_ok p_comma text s c d f (kind-told e z) (omega arith) q
 
-pub comma-bad : (text s : List ℕ) (c : At) (n : ℕ) → Fine text s c → n ≡ kind_at s c.at → (n ≡ 9 → ⊥) → CommaRead text s c (Err (Bad c.at))
-comma-bad text s c n f e z = mark-bad p_comma text s c f (λ y. z (e ∙ y))
+pub comma-bad : (text s : List ℕ) (c : At) (n : Bool) → Fine text s c → n ≡ eqb (kind_at s c.at) 9 → n ≡ false → CommaRead text s c (Err (Bad c.at))
+comma-bad text s c n f e z = mark-bad p_comma text s c f (kind-untold e z)
 
 pub next_ok : (text s a b : List ℕ) (c d : At) (m : Class) (z : Result At Unread) → CommaRead text s c (Ok d) → OperandRead m text s a b d z → NextRead m text s a b c z
 next_ok text s a b c d m z v w = both (mark p_comma ∷ []) (operand (class_of m) ∷ []) text s a a b c d z (v.with_log a) w

@@ -8,9 +8,10 @@ ghost use Rattle.events.specs.Log.{Holds, word_of};
 ghost use Rattle.operands.specs.Log.{passed, logged};
 ghost use Rattle.operands.specs.Contract.{Fine, OperandRead, CommaRead, NextRead, TwoRead, ThreeRead, RepeatRead, PairRead, PairsRead, NameRead, CountRead, NamesRead, FunctionRead, FlagsRead, FlagsPairsRead, RegistersRead, Function2Read, FrameRead, ValuesRead, ListRead, OperandsRead};
 
-use classes::{Class, count_at, fits_at, is_count, kind_at};
+use classes::{Class, count_at, fits_at, is_count, is_kind_at};
 use events::{Event, log_word};
 use shapes::Shape;
+use tokens::TokenKind;
 
 // The next token, and how many events the log holds.
 #[derive(Clone, Copy)]
@@ -25,11 +26,6 @@ pub enum Unread {
     Bad(usize),
     Deep(usize),
 }
-
-// Places of kinds in `TokenKind`, as a token's word holds them: an enum would list its variants again, without what they carry.
-const COMMA: u64 = 9;
-
-const TRUE: u64 = 12;
 
 // ---- the log
 
@@ -93,7 +89,7 @@ fn comma(text: &[u8], s: &[u64], c: At) -> Result<At, Unread>
     requires { Fine text.now s.now c }
     ensures { CommaRead text.now s.now c result }
 {
-    if kind_at(s, c.at) == COMMA {
+    if is_kind_at(s, c.at, TokenKind::Comma) {
         Ok(passed(c))
     } else {
         Err(Unread::Bad(c.at))
@@ -252,9 +248,9 @@ fn goto_frame_2(text: &[u8], s: &[u64], events: &mut [u64], c: At) -> Result<At,
     requires { Fine text.now s.now c }
     ensures { FrameRead text.now s.now events.old events.new c result }
 {
-    let k = kind_at(s, c.at);
+    let has_bias = is_kind_at(s, c.at, TokenKind::True);
     let d = two(text, s, events, c, Class::Bool, Class::Bool)?;
-    if k == TRUE {
+    if has_bias {
         next_operand(text, s, events, d, Class::U16)
     } else {
         Ok(d)
@@ -267,7 +263,7 @@ fn more_values(text: &[u8], s: &[u64], events: &mut [u64], c: At, m: Class) -> R
     ensures { ValuesRead m text.now s.now events.old events.new c result }
 {
     let mut p = c;
-    while kind_at(s, p.at) == COMMA {
+    while is_kind_at(s, p.at, TokenKind::Comma) {
         p = operand(text, s, events, passed(p), m)?;
     }
     Ok(p)

@@ -4,7 +4,7 @@ use mathlib.Core.Bool.{Bool, true, false}
 use mathlib.Core.List.{List, [], ◌∷◌}
 use Prim.Native.Nat.{ℕ, suc, ◌+◌, ◌*◌, ◌-◌, ◌<◌}
 use native.Mathlib.Omega.{arith}
-use lib.Dec.{ltb}
+use lib.Dec.{eqb, ltb}
 use lib.ListN.{length, set}
 use borrow.Author.Tests.{ltb-true, ltb-false}
 use Rattle.std.specs.Prelude.{Result, Ok, Err}
@@ -17,6 +17,7 @@ use Rattle.operands.specs.declared.At.{At}
 use Rattle.operands.specs.declared.Unread.{Unread}
 use Rattle.operands.specs.declared.Unread.TheVariants.{Bad, Deep}
 use Rattle.classes.specs.Lexemes.{kind_at}
+use Rattle.classes.proofs.OneToken.{kind-told}
 use Rattle.events.specs.Log.{log_word, block_number}
 use Rattle.operands.specs.Log.{log, logged, part_number}
 use Rattle.operands.specs.Contract.{judge, outcome, Fine, Onward, Ahead, at-end as action-ends}
@@ -39,8 +40,8 @@ module _ {α β : Nesting → List Symbol} (text s a b : List ℕ) (c p : At) (d
 
 -- ---- a block
 
-module _ (b : BlockKind) (text s a : List ℕ) (c : At) (room k : ℕ) (f : Fine text s c) (e : k ≡ kind_at s c.at) where
-  pub block-bad : (k ≡ 10 → ⊥) → BlockRead b text s a a c room (Err (Bad c.at))
+module _ (b : BlockKind) (text s a : List ℕ) (c : At) (room : ℕ) (k : Bool) (f : Fine text s c) (e : k ≡ eqb (kind_at s c.at) 10) where
+  pub block-bad : k ≡ false → BlockRead b text s a a c room (Err (Bad c.at))
   unfolding outcome Ahead
   block-bad z = record { says = λ x σ. by (ltb c.at (length s)) refl σ; ahead = f.inside }
     where
@@ -51,7 +52,7 @@ module _ (b : BlockKind) (text s a : List ℕ) (c : At) (room k : ℕ) (f : Fine
           at-stop text s c.at (opens (part_of b)) σ room (log a c) i (rw d)
       by false q σ = at-end text s c.at (opens (part_of b)) σ room (log a c) (ltb-false c.at (length s) q) refl
 
-  pub block-deep : k ≡ 10 → room ≡ 0 → BlockRead b text s a a c room (Err (Deep c.at))
+  pub block-deep : k ≡ true → room ≡ 0 → BlockRead b text s a a c room (Err (Deep c.at))
   unfolding outcome Ahead
   block-deep z q =
       let i = kind-known s c.at k 10 e z (omega arith) in
@@ -61,12 +62,12 @@ module _ (b : BlockKind) (text s a : List ℕ) (c : At) (room k : ℕ) (f : Fine
         ahead = f.inside;
       }
 
-pub opened-fine : (text s : List ℕ) (c d : At) (k : ℕ) → Fine text s c → k ≡ kind_at s c.at → k ≡ 10 → d ≡ logged c → Fine text s d
-opened-fine text s c d k f e z q = rw q (logged-fine text s c f (kind-there s c.at 10 (sym e ∙ z) (omega arith)))
+pub opened-fine : (text s : List ℕ) (c d : At) (k : Bool) → Fine text s c → k ≡ eqb (kind_at s c.at) 10 → k ≡ true → d ≡ logged c → Fine text s d
+opened-fine text s c d k f e z q = rw q (logged-fine text s c f (kind-there s c.at 10 (kind-told e z) (omega arith)))
 
-pub opened_less : (s : List ℕ) (c d : At) (k t : ℕ) → k ≡ kind_at s c.at → k ≡ 10 → d ≡ logged c → 4 * (length s - c.at) ≡ t → 4 * (length s - d.at) + 2 < t
+pub opened_less : (s : List ℕ) (c d : At) (k : Bool) (t : ℕ) → k ≡ eqb (kind_at s c.at) 10 → k ≡ true → d ≡ logged c → 4 * (length s - c.at) ≡ t → 4 * (length s - d.at) + 2 < t
 opened_less s c d k t e z q m =
-    let i = kind-there s c.at 10 (sym e ∙ z) (omega arith) in
+    let i = kind-there s c.at 10 (kind-told e z) (omega arith) in
     let y : d.at ≡ c.at + 1 = ap (λ (x : At). x.at) q in
     omega arith
 
@@ -82,7 +83,7 @@ block-part B.Try = refl
 block-part B.Catch = refl
 block-part B.Finally = refl
 
-pub block_goes : (b : BlockKind) (text s a a' l : List ℕ) (c d : At) (room k : ℕ) (r : Result At Unread) → Fine text s c → k ≡ kind_at s c.at → k ≡ 10 → (room ≡ 0 → ⊥) →
+pub block_goes : (b : BlockKind) (text s a a' l : List ℕ) (c d : At) (room : ℕ) (k : Bool) (r : Result At Unread) → Fine text s c → k ≡ eqb (kind_at s c.at) 10 → k ≡ true → (room ≡ 0 → ⊥) →
     a' ≡ set a c.events (log_word 3 (block_number b)) → d ≡ logged c → LevelRead text s a' l d (room - 1) true r → BlockRead b text s a l c room r
 block_goes b text s a a' l c d room k r f e z o q y v =
     let i = kind-known s c.at k 10 e z (omega arith) in

@@ -8,7 +8,7 @@ use Prim.Native.Nat.{ℕ, ◌+◌, ◌≤◌, ◌<◌}
 use native.Mathlib.Omega.{arith}
 use lib.Dec.{eqb, ltb}
 use lib.ListN.{length, get_or, set}
-use borrow.Author.Tests.{ltb-true, ltb-false, ne_eqb}
+use borrow.Author.Tests.{ltb-true, ltb-false, eq-eqb, ne_eqb}
 use Rattle.std.specs.Prelude.{Result, Ok, Err, Some, None}
 use Rattle.tokens.specs.declared.TokenKind.{TokenKind}
 use Rattle.tokens.specs.declared.TokenKind.TheVariants as K
@@ -28,7 +28,7 @@ use Rattle.classes.specs.Lexemes.{lexeme_of, kind_at, class_at, fits_at}
 use Rattle.events.specs.Log.{log_word}
 use Rattle.operands.specs.Log.{Log, log, emit, passed, logged}
 use Rattle.operands.specs.Contract.{judge, outcome, Fine, Ahead}
-use Rattle.classes.proofs.OneToken.{kind-inside, kind_past, fits-inside, fits-there}
+use Rattle.classes.proofs.OneToken.{kind-inside, kind_past, fits-inside, fits-there, kind-told, kind-untold}
 use Rattle.operands.proofs.Places.{at-move, at-step, at-stop, at-end, past_same}
 use Rattle.operands.proofs.Runs.{passed-fine, passed_on, logged-fine, logged_on, here, further_on, kind-there, mark_ok, mark-bad}
 use Rattle.parser.specs.declared.Handler.TheVariants as H
@@ -38,15 +38,18 @@ use Rattle.parser.specs.Parsing.{Forward, EndRead, ColonRead, LabelRead, Newline
 abbrev kind : List ℕ → ℕ → ℕ
 kind s at = (code_of (token_of (get_or s at 0)).kind).place
 
-pub kind-known : (s : List ℕ) (at k n : ℕ) → k ≡ kind_at s at → k ≡ n → n < 99 → (at < length s) × (kind s at ≡ n)
-kind-known s at k n e z l = let i = kind-there s at n (sym e ∙ z) l in (i, sym (kind-inside s at i) ∙ sym e ∙ z)
+pub kind-known : (s : List ℕ) (at : ℕ) (k : Bool) (n : ℕ) → k ≡ eqb (kind_at s at) n → k ≡ true → n < 99 → (at < length s) × (kind s at ≡ n)
+kind-known s at k n e z l = let i = kind-there s at n (kind-told e z) l in (i, sym (kind-inside s at i) ∙ kind-told e z)
 
-pub kind_other : (s : List ℕ) (at k n : ℕ) → at < length s → k ≡ kind_at s at → (k ≡ n → ⊥) → eqb (kind s at) n ≡ false
-kind_other s at k n i e z = ne_eqb (kind s at) n (λ y. z (e ∙ kind-inside s at i ∙ y))
+kind-not : (s : List ℕ) (at n : ℕ) → at < length s → (kind_at s at ≡ n → ⊥) → eqb (kind s at) n ≡ false
+kind-not s at n i z = ne_eqb (kind s at) n (λ y. z (kind-inside s at i ∙ y))
+
+pub kind_other : (s : List ℕ) (at : ℕ) (k : Bool) (n : ℕ) → at < length s → k ≡ eqb (kind_at s at) n → k ≡ false → eqb (kind s at) n ≡ false
+kind_other s at k n i e z = kind-not s at n i (kind-untold e z)
 
 -- ---- the end of an action
 
-pub end_ok : (text s : List ℕ) (c d : At) (k : ℕ) → Fine text s c → k ≡ kind_at s c.at → k ≡ 0 → d ≡ passed c → EndRead text s c (Ok d)
+pub end_ok : (text s : List ℕ) (c d : At) (k : Bool) → Fine text s c → k ≡ eqb (kind_at s c.at) 0 → k ≡ true → d ≡ passed c → EndRead text s c (Ok d)
 unfolding outcome Ahead
 end_ok text s c d k f e z q =
     let i = kind-known s c.at k 0 e z (omega arith) in
@@ -58,7 +61,7 @@ end_ok text s c d k f e z q =
       };
     })
 
-pub end-bad : (text s : List ℕ) (c : At) (k : ℕ) → Fine text s c → c.at < length s → k ≡ kind_at s c.at → (k ≡ 0 → ⊥) → EndRead text s c (Err (Bad c.at))
+pub end-bad : (text s : List ℕ) (c : At) (k : Bool) → Fine text s c → c.at < length s → k ≡ eqb (kind_at s c.at) 0 → k ≡ false → EndRead text s c (Err (Bad c.at))
 unfolding outcome Ahead
 end-bad text s c k f i e z =
     let m = kind_other s c.at k 0 i e z in
@@ -71,11 +74,11 @@ end_past text s c f i =
 
 -- ---- labels
 
-pub colon_ok : (text s : List ℕ) (c d : At) (k : ℕ) → Fine text s c → k ≡ kind_at s c.at → k ≡ 8 → d ≡ passed c → ColonRead text s c (Ok d)
-colon_ok text s c d k f e z q = mark_ok p_colon text s c d f (sym e ∙ z) (omega arith) q
+pub colon_ok : (text s : List ℕ) (c d : At) (k : Bool) → Fine text s c → k ≡ eqb (kind_at s c.at) 8 → k ≡ true → d ≡ passed c → ColonRead text s c (Ok d)
+colon_ok text s c d k f e z q = mark_ok p_colon text s c d f (kind-told e z) (omega arith) q
 
-pub colon_bad : (text s : List ℕ) (c : At) (k : ℕ) → Fine text s c → k ≡ kind_at s c.at → (k ≡ 8 → ⊥) → ColonRead text s c (Err (Bad c.at))
-colon_bad text s c k f e z = mark-bad p_colon text s c f (λ y. z (e ∙ y))
+pub colon_bad : (text s : List ℕ) (c : At) (k : Bool) → Fine text s c → k ≡ eqb (kind_at s c.at) 8 → k ≡ false → ColonRead text s c (Err (Bad c.at))
+colon_bad text s c k f e z = mark-bad p_colon text s c f (kind-untold e z)
 
 pub forward_on : (text s : List ℕ) (c d : At) (r : Result At Unread) → c.at < d.at → Ahead text s d r → Forward c r
 unfolding Ahead Forward
@@ -156,7 +159,7 @@ pub record Skipped (text s : List ℕ) (at p : ℕ) : Type 0 where
 pub skip_start : (text s : List ℕ) (at : ℕ) → at ≤ length s → Skipped text s at at
 skip_start text s at h = record { says = λ e l σ n L. refl; from = omega arith; to = h }
 
-pub skip_next : (text s : List ℕ) (at p k : ℕ) → Skipped text s at p → k ≡ kind_at s p → k ≡ 0 → Skipped text s at (p + 1)
+pub skip_next : (text s : List ℕ) (at p : ℕ) (k : Bool) → Skipped text s at p → k ≡ eqb (kind_at s p) 0 → k ≡ true → Skipped text s at (p + 1)
 skip_next text s at p k v e z =
     let i = kind-known s p k 0 e z (omega arith) in
     let l = i.0 in
@@ -167,8 +170,8 @@ skip_next text s at p k v e z =
       to = omega arith;
     }
 
-pub skip_ends : (text s : List ℕ) (at p k : ℕ) → Skipped text s at p → k ≡ kind_at s p → (k ≡ 0 → ⊥) → NewlinesRead text s at p
-skip_ends text s at p k v e z = record { says = v.says; from = v.from; to = v.to; stops = λ y. z (e ∙ y) }
+pub skip_ends : (text s : List ℕ) (at p : ℕ) (k : Bool) → Skipped text s at p → k ≡ eqb (kind_at s p) 0 → k ≡ false → NewlinesRead text s at p
+skip_ends text s at p k v e z = record { says = v.says; from = v.from; to = v.to; stops = kind-untold e z }
 
 pub skip_over : (text s : List ℕ) (at p : ℕ) → Skipped text s at p → length s ≤ p → NewlinesRead text s at (length s)
 skip_over text s at p v h =
@@ -181,7 +184,7 @@ skip_over text s at p v h =
 to_item : (text s : List ℕ) (at q : ℕ) (e : Nesting) (h : Handlers) (σ : List Symbol) (n : ℕ) (L : Log) → kind_at s at ≡ 0 → NewlinesRead text s (at + 1) q →
     judge text s (level e (ended h) ∷ σ) n L at ≡ judge text s (level e (item h) ∷ σ) n L q
 to_item text s at q e h σ n L z v =
-    let i = kind-known s at 0 0 (sym z) refl (omega arith) in
+    let i = kind-known s at true 0 (sym (eq-eqb (kind_at s at) 0 z)) refl (omega arith) in
     let k = i.1 in
     at-step text s at (level e (ended h)) (level e (item h) ∷ []) σ silent n L i.0 (rw k) ∙ v.says e h σ n L
 
@@ -198,11 +201,11 @@ item_no_handlers text s q e h σ n L a b c = by (ltb q (length s)) refl
         let i = ltb-true q (length s) z in
         let t = token_of (get_or s q 0) in
         let m =
-        item_move e h q t.kind (raw_text text t) (kind_other s q (kind_at s q) 0 i refl a) (kind_other s q (kind_at s q) 16 i refl b) (kind_other s q (kind_at s q) 17 i refl c) in
+        item_move e h q t.kind (raw_text text t) (kind-not s q 0 i a) (kind-not s q 16 i b) (kind-not s q 17 i c) in
         at-move text s q (level e (item h)) σ n L i ∙ rw m (sym (at-move text s q (level e (item no_handlers)) σ n L i))
     by false z = past_same text s q e (item h) (item no_handlers) σ n L (ltb-false q (length s) z)
 
-pub handler_not : (text s : List ℕ) (c : At) (k : ℕ) → k ≡ kind_at s c.at → (k ≡ 0 → ⊥) → HandlerRead text s c H.NoNewline
+pub handler_not : (text s : List ℕ) (c : At) (k : Bool) → k ≡ eqb (kind_at s c.at) 0 → k ≡ false → HandlerRead text s c H.NoNewline
 unfolding HandlerRead
 handler_not text s c k e z = record { says = λ h x σ n L. by (ltb c.at (length s)) refl h x σ n L }
   where
@@ -214,15 +217,15 @@ handler_not text s c k e z = record { says = λ h x σ n L. by (ltb c.at (length
         at-stop text s c.at (level x (ended h)) σ n L i (rw d) ∙ sym (at-stop text s c.at (level x (ended no_handlers)) σ n L i (rw d))
     by false q h x σ n L = past_same text s c.at x (ended h) (ended no_handlers) σ n L (ltb-false c.at (length s) q)
 
-pub newline-inside : (s : List ℕ) (at k : ℕ) → k ≡ kind_at s at → k ≡ 0 → at + 1 ≤ length s
-newline-inside s at k e z = let i = kind-there s at 0 (sym e ∙ z) (omega arith) in omega arith
+pub newline-inside : (s : List ℕ) (at : ℕ) (k : Bool) → k ≡ eqb (kind_at s at) 0 → k ≡ true → at + 1 ≤ length s
+newline-inside s at k e z = let i = kind-there s at 0 (kind-told e z) (omega arith) in omega arith
 
-pub handler_item : (text s : List ℕ) (c : At) (k q m : ℕ) → k ≡ kind_at s c.at → k ≡ 0 → NewlinesRead text s (c.at + 1) q → m ≡ kind_at s q → (m ≡ 16 → ⊥) → (m ≡ 17 → ⊥) → HandlerRead text s c (H.Item q)
+pub handler_item : (text s : List ℕ) (c : At) (k : Bool) (q : ℕ) (m l : Bool) → k ≡ eqb (kind_at s c.at) 0 → k ≡ true → NewlinesRead text s (c.at + 1) q → m ≡ eqb (kind_at s q) 16 → m ≡ false → l ≡ eqb (kind_at s q) 17 → l ≡ false → HandlerRead text s c (H.Item q)
 unfolding HandlerRead
-handler_item text s c k q m e z v f a b =
+handler_item text s c k q m l e z v f a g b =
     record {
       says = λ h x σ n L.
-          to_item text s c.at q x h σ n L (sym e ∙ z) v ∙ item_no_handlers text s q x h σ n L v.stops (λ y. a (f ∙ y)) (λ y. b (f ∙ y));
+          to_item text s c.at q x h σ n L (kind-told e z) v ∙ item_no_handlers text s q x h σ n L v.stops (kind-untold f a) (kind-untold g b);
       from = omega (arith, v.from);
       to = v.to;
     }
@@ -233,20 +236,20 @@ catch_goes text s q none e σ n L i k = at-step text s q (level e (item (after_t
 catch_goes text s q (some t) e σ n L i k =
     at-step text s q (level e (item (after_try (some t)))) (opens catch ∷ level e (ended after-catch) ∷ []) σ (target-out (some t)) n L i (rw k)
 
-pub handler_catch : (text s : List ℕ) (c : At) (k q m : ℕ) → k ≡ kind_at s c.at → k ≡ 0 → NewlinesRead text s (c.at + 1) q → m ≡ kind_at s q → m ≡ 16 → HandlerRead text s c (H.Catch q)
+pub handler_catch : (text s : List ℕ) (c : At) (k : Bool) (q : ℕ) (m : Bool) → k ≡ eqb (kind_at s c.at) 0 → k ≡ true → NewlinesRead text s (c.at + 1) q → m ≡ eqb (kind_at s q) 16 → m ≡ true → HandlerRead text s c (H.Catch q)
 unfolding HandlerRead
 handler_catch text s c k q m e z v f a =
     let i = kind-known s q m 16 f a (omega arith) in
     let l = i.0 in
     let y = i.1 in
     record {
-      says = λ o x σ n L. to_item text s c.at q x (after_try o) σ n L (sym e ∙ z) v ∙ catch_goes text s q o x σ n L l y;
-      again = λ x σ n L. to_item text s c.at q x after-catch σ n L (sym e ∙ z) v ∙ at-stop text s q (level x (item after-catch)) σ n L l (rw y);
+      says = λ o x σ n L. to_item text s c.at q x (after_try o) σ n L (kind-told e z) v ∙ catch_goes text s q o x σ n L l y;
+      again = λ x σ n L. to_item text s c.at q x after-catch σ n L (kind-told e z) v ∙ at-stop text s q (level x (item after-catch)) σ n L l (rw y);
       from = omega (arith, v.from);
       to = l;
     }
 
-pub handler_finally : (text s : List ℕ) (c : At) (k q m : ℕ) → k ≡ kind_at s c.at → k ≡ 0 → NewlinesRead text s (c.at + 1) q → m ≡ kind_at s q → m ≡ 17 → HandlerRead text s c (H.Finally q)
+pub handler_finally : (text s : List ℕ) (c : At) (k : Bool) (q : ℕ) (m : Bool) → k ≡ eqb (kind_at s c.at) 0 → k ≡ true → NewlinesRead text s (c.at + 1) q → m ≡ eqb (kind_at s q) 17 → m ≡ true → HandlerRead text s c (H.Finally q)
 unfolding HandlerRead
 handler_finally text s c k q m e z v f a =
     let i = kind-known s q m 17 f a (omega arith) in
@@ -254,9 +257,9 @@ handler_finally text s c k q m e z v f a =
     let y = i.1 in
     record {
       says-try = λ o x σ n L.
-          to_item text s c.at q x (after_try o) σ n L (sym e ∙ z) v ∙ at-step text s q (level x (item (after_try o))) (opens finally ∷ level x (ended no_handlers) ∷ []) σ silent n L l (rw y);
+          to_item text s c.at q x (after_try o) σ n L (kind-told e z) v ∙ at-step text s q (level x (item (after_try o))) (opens finally ∷ level x (ended no_handlers) ∷ []) σ silent n L l (rw y);
       says-catch = λ x σ n L.
-          to_item text s c.at q x after-catch σ n L (sym e ∙ z) v ∙ at-step text s q (level x (item after-catch)) (opens finally ∷ level x (ended no_handlers) ∷ []) σ silent n L l (rw y);
+          to_item text s c.at q x after-catch σ n L (kind-told e z) v ∙ at-step text s q (level x (item after-catch)) (opens finally ∷ level x (ended no_handlers) ∷ []) σ silent n L l (rw y);
       from = omega (arith, v.from);
       to = l;
     }

@@ -4,6 +4,7 @@ use mathlib.Core.Bool.{Bool, true, false}
 use mathlib.Core.List.{List, [], ◌∷◌, ◌++◌}
 use Prim.Native.Nat.{ℕ, suc, ◌+◌, ◌*◌, ◌-◌, ◌≤◌, ◌<◌}
 use native.Mathlib.Omega.{arith}
+use lib.Dec.{eqb}
 use lib.ListN.{length, get_or, set}
 use Rattle.std.specs.Prelude.{Result, Ok, Err}
 use Rattle.names.specs.declared.ActionName.{ActionName}
@@ -160,7 +161,7 @@ number_fits n j e = omega (arith, number_below n)
 
 -- ---- an item
 
-pub item-newline : (text s a : List ℕ) (c d : At) (room k : ℕ) → Fine text s c → k ≡ kind_at s c.at → k ≡ 0 → d ≡ passed c → ItemRead text s a a c room (Ok d)
+pub item-newline : (text s a : List ℕ) (c d : At) (room : ℕ) (k : Bool) → Fine text s c → k ≡ eqb (kind_at s c.at) 0 → k ≡ true → d ≡ passed c → ItemRead text s a a c room (Ok d)
 unfolding outcome Ahead Forward
 item-newline text s a c d room k f e z q =
     let i = kind-known s c.at k 0 e z (omega arith) in
@@ -216,7 +217,7 @@ by_nesting text s a b c d i j r e v = subst (λ (x : Bool). LevelRead text s a b
 reach_as : (text s a b : List ℕ) (c p : At) (d : ℕ) (i j : Bool) → i ≡ j → Reaches text s a b c d i p → Reaches text s a b c d j p
 reach_as text s a b c p d i j e v = subst (λ (x : Bool). Reaches text s a b c d x p) e v
 
-pub level_closes : (text s a b l : List ℕ) (c p q : At) (d k : ℕ) (i : Bool) → Reaches text s a b c d i p → k ≡ kind_at s p.at → k ≡ 11 → i ≡ true → l ≡ set b p.events (log_word 4 0) → q ≡ logged p →
+pub level_closes : (text s a b l : List ℕ) (c p q : At) (d : ℕ) (k i : Bool) → Reaches text s a b c d i p → k ≡ eqb (kind_at s p.at) 11 → k ≡ true → i ≡ true → l ≡ set b p.events (log_word 4 0) → q ≡ logged p →
     LevelRead text s a l c d i (Ok q)
 unfolding outcome Ahead LevelSays
 level_closes text s a b l c p q d k i v e z t y x =
@@ -229,7 +230,7 @@ level_closes text s a b l c p q d k i v e z t y x =
       ahead = further_on text s c p (Ok (logged p)) (reach_on v) (logged_on text s p v.fine j.0);
     }))
 
-pub level_close_bad : (text s a b : List ℕ) (c p : At) (d k : ℕ) (i : Bool) → Reaches text s a b c d i p → k ≡ kind_at s p.at → k ≡ 11 → i ≡ false → LevelRead text s a b c d i (Err (Bad p.at))
+pub level_close_bad : (text s a b : List ℕ) (c p : At) (d : ℕ) (k i : Bool) → Reaches text s a b c d i p → k ≡ eqb (kind_at s p.at) 11 → k ≡ true → i ≡ false → LevelRead text s a b c d i (Err (Bad p.at))
 unfolding Ahead LevelSays whole
 level_close_bad text s a b c p d k i v e z t =
     let j = kind-known s p.at k 11 e z (omega arith) in

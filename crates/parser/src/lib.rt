@@ -9,26 +9,11 @@ ghost use Rattle.parser.specs.Parsing.{EndRead, ColonRead, LabelRead, NewlinesRe
 ghost use Rattle.parser.specs.Parsed.{Parsed};
 
 use actions::action_number;
-use classes::{Class, fits_at, kind_at};
+use classes::{Class, fits_at, is_kind_at};
 use events::{BlockKind, Event};
 use operands::{At, Unread, logged, operands, passed, write_event};
 use shapes::{Shape, shape_of};
 use tokens::{TokenKind, token_of};
-
-// Places of kinds in `TokenKind`, as a token's word holds them: an enum would list its variants again, without what they carry.
-const NEWLINE: u64 = 0;
-
-const IDENTIFIER: u64 = 7;
-
-const COLON: u64 = 8;
-
-const OPEN_BRACE: u64 = 10;
-
-const CLOSE_BRACE: u64 = 11;
-
-const CATCH: u64 = 16;
-
-const FINALLY: u64 = 17;
 
 // What follows a block of a Try: no newline, or, behind all newlines, the place of another item or of a handler's word.
 #[derive(Clone, Copy)]
@@ -47,7 +32,7 @@ fn end_of_action(text: &[u8], s: &[u64], c: At) -> Result<At, Unread>
     ensures { EndRead text.now s.now c result }
 {
     if c.at < s.len() {
-        if kind_at(s, c.at) == NEWLINE {
+        if is_kind_at(s, c.at, TokenKind::Newline) {
             Ok(passed(c))
         } else {
             Err(Unread::Bad(c.at))
@@ -61,7 +46,7 @@ fn colon(text: &[u8], s: &[u64], c: At) -> Result<At, Unread>
     requires { Fine text.now s.now c }
     ensures { ColonRead text.now s.now c result }
 {
-    if kind_at(s, c.at) == COLON {
+    if is_kind_at(s, c.at, TokenKind::Colon) {
         Ok(passed(c))
     } else {
         Err(Unread::Bad(c.at))
@@ -84,7 +69,7 @@ fn newlines(text: &[u8], s: &[u64], at: usize) -> usize
     ensures { NewlinesRead text.now s.now at result }
 {
     for p in at..s.len() {
-        if kind_at(s, p) != NEWLINE {
+        if !is_kind_at(s, p, TokenKind::Newline) {
             return p;
         }
     }
@@ -96,15 +81,14 @@ fn next_handler(text: &[u8], s: &[u64], c: At) -> Handler
     requires { Fine text.now s.now c }
     ensures { HandlerRead text.now s.now c result }
 {
-    if kind_at(s, c.at) != NEWLINE {
+    if !is_kind_at(s, c.at, TokenKind::Newline) {
         return Handler::NoNewline;
     }
     let q = newlines(text, s, c.at + 1);
-    let n = kind_at(s, q);
-    if n == CATCH {
+    if is_kind_at(s, q, TokenKind::Catch) {
         return Handler::Catch(q);
     }
-    if n == FINALLY {
+    if is_kind_at(s, q, TokenKind::Finally) {
         return Handler::Finally(q);
     }
     Handler::Item(q)
@@ -175,7 +159,7 @@ fn actions(
 {
     let mut p = c;
     while p.at < s.len() {
-        if kind_at(s, p.at) == CLOSE_BRACE {
+        if is_kind_at(s, p.at, TokenKind::CloseBrace) {
             if inside {
                 write_event(events, p.events, Event::Closed);
                 return Ok(logged(p));
@@ -199,11 +183,10 @@ fn item(text: &[u8], s: &[u64], events: &mut [u64], c: At, room: usize) -> Resul
     requires not_closing { NotClosing s.now c }
     ensures { ItemRead text.now s.now events.old events.new c room result }
 {
-    let k = kind_at(s, c.at);
-    if k == NEWLINE {
+    if is_kind_at(s, c.at, TokenKind::Newline) {
         return Ok(passed(c));
     }
-    if k == IDENTIFIER {
+    if is_kind_at(s, c.at, TokenKind::Identifier) {
         return label(text, s, events, c);
     }
     action(text, s, events, c, room)
@@ -282,7 +265,7 @@ fn block(
     requires { Fine text.now s.now c }
     ensures { BlockRead b text.now s.now events.old events.new c room result }
 {
-    if kind_at(s, c.at) != OPEN_BRACE {
+    if !is_kind_at(s, c.at, TokenKind::OpenBrace) {
         return Err(Unread::Bad(c.at));
     }
     if room == 0 {

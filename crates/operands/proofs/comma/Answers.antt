@@ -2,8 +2,8 @@
 use Rattle.operands.proofs.Runs.{comma_ok, comma-bad}
 use Rattle.operands.proofs.comma.Goals as goal
 
-pub returns-then-kind_at-eq-COMMA : goal.returns-then-kind_at-eq-COMMA
-returns-then-kind_at-eq-COMMA c = search comma_ok
+pub returns-then-is_kind_at : goal.returns-then-is_kind_at
+returns-then-is_kind_at c = search comma_ok
 
-pub returns-else-kind_at-eq-COMMA : goal.returns-else-kind_at-eq-COMMA
-returns-else-kind_at-eq-COMMA c = search comma-bad
+pub returns-else-is_kind_at : goal.returns-else-is_kind_at
+returns-else-is_kind_at c = search comma-bad

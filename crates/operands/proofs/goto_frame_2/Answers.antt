@@ -9,8 +9,8 @@ returns-in_err-d c = rw (met c.from_residual.ensures.1) (search (frame-bad, c.in
 pub next_operand-requires : goal.next_operand-requires
 next_operand-requires c = search (fine-to, c.in_ok-d.ensures)
 
-pub returns-then-k-eq-TRUE : goal.returns-then-k-eq-TRUE
-returns-then-k-eq-TRUE c = search (frame_biased, c.in_ok-d.ensures)
+pub returns-then-has_bias : goal.returns-then-has_bias
+returns-then-has_bias c = search (frame_biased, c.in_ok-d.ensures)
 
-pub returns-else-k-eq-TRUE : goal.returns-else-k-eq-TRUE
-returns-else-k-eq-TRUE c = search (frame-plain, c.in_ok-d.ensures)
+pub returns-else-has_bias : goal.returns-else-has_bias
+returns-else-has_bias c = search (frame-plain, c.in_ok-d.ensures)

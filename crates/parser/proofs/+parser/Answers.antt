@@ -33,8 +33,8 @@ action-returns t c =
 pub actions-returns-then-inside : goal.actions-returns-then-inside
 actions-returns-then-inside t c = search level_closes
 
-pub actions-returns-then-kind_at-eq-CLOSE_BRACE : goal.actions-returns-then-kind_at-eq-CLOSE_BRACE
-actions-returns-then-kind_at-eq-CLOSE_BRACE t c = search level_close_bad
+pub actions-returns-then-is_kind_at : goal.actions-returns-then-is_kind_at
+actions-returns-then-is_kind_at t c = search level_close_bad
 
 pub actions-returns-in_err-p : goal.actions-returns-in_err-p
 actions-returns-in_err-p t c = rw (met c.from_residual.ensures.1) (search (level_fails, c.in_err-p.ensures))
@@ -53,8 +53,8 @@ actions-returns-else-inside-2 t c = search level-whole
 
 -- ---- block
 
-pub block-returns-then-kind_at-ne-OPEN_BRACE : goal.block-returns-then-kind_at-ne-OPEN_BRACE
-block-returns-then-kind_at-ne-OPEN_BRACE t c = search block-bad
+pub block-returns-then-not-is_kind_at : goal.block-returns-then-not-is_kind_at
+block-returns-then-not-is_kind_at t c = search block-bad
 
 pub block-returns-then-room-eq0 : goal.block-returns-then-room-eq0
 block-returns-then-room-eq0 t c = search block-deep
@@ -102,8 +102,8 @@ handlers-returns t c =
 
 -- ---- item
 
-pub item-returns-then-k-eq-NEWLINE : goal.item-returns-then-k-eq-NEWLINE
-item-returns-then-k-eq-NEWLINE t c = search item-newline
+pub item-returns-then-is_kind_at : goal.item-returns-then-is_kind_at
+item-returns-then-is_kind_at t c = search item-newline
 
 -- ---- last_block
 

@@ -2,8 +2,8 @@
 use Rattle.parser.proofs.Leaves.{colon_ok, colon_bad}
 use Rattle.parser.proofs.colon.Goals as goal
 
-pub returns-then-kind_at-eq-COLON : goal.returns-then-kind_at-eq-COLON
-returns-then-kind_at-eq-COLON c = search colon_ok
+pub returns-then-is_kind_at : goal.returns-then-is_kind_at
+returns-then-is_kind_at c = search colon_ok
 
-pub returns-else-kind_at-eq-COLON : goal.returns-else-kind_at-eq-COLON
-returns-else-kind_at-eq-COLON c = search colon_bad
+pub returns-else-is_kind_at : goal.returns-else-is_kind_at
+returns-else-is_kind_at c = search colon_bad

@@ -5,8 +5,8 @@ use Rattle.parser.proofs.newlines.Goals as goal
 pub loop-p-init : goal.loop-p-init
 loop-p-init c = search skip_start
 
-pub returns-then-kind_at-ne-NEWLINE : goal.returns-then-kind_at-ne-NEWLINE
-returns-then-kind_at-ne-NEWLINE c = search skip_ends
+pub returns-then-not-is_kind_at : goal.returns-then-not-is_kind_at
+returns-then-not-is_kind_at c = search skip_ends
 
 pub loop-p-preserved : goal.loop-p-preserved
 loop-p-preserved c = search skip_next
