@@ -70,10 +70,9 @@ pub fn target_of(
 ) -> Option<usize>
     ensures { result ≡ target_in text.now tokens.now level name.now labels.now }
 {
-    for i in 0..labels.len() {
-        let word = labels[i];
-        if label_names::is_named(text, tokens, level, name, word) {
-            let label = entries::label_of(word);
+    for word in labels {
+        if label_names::is_named(text, tokens, level, name, *word) {
+            let label = entries::label_of(*word);
             return Some(label.position);
         }
     }

@@ -3,24 +3,24 @@ use native.Mathlib.Omega.{arith}
 use Rattle.lookups.proofs.Targets as laws
 use Rattle.lookups.proofs.target_of.Goals as goal
 
-pub loop-i-init : goal.loop-i-init
-loop-i-init c =
+pub loop-word-init : goal.loop-word-init
+loop-word-init c =
     laws.all _ _ _ _ _
 
 pub returns-then-is_named : goal.returns-then-is_named
 returns-then-is_named c =
     let a = c.args in
-    let l = c.loop-i in
-    laws.found a.text.now a.tokens.now a.level a.name.now a.labels.now l.i l.invariant (omega arith) _ _ c.if-is_named.true c.is_named.ensures c.label_of-label.ensures
+    let l = c.loop-word in
+    laws.found a.text.now a.tokens.now a.level a.name.now a.labels.now l.word-index l.invariant (omega arith) _ _ c.if-is_named.true c.is_named.ensures c.label_of-label.ensures
 
-pub loop-i-preserved : goal.loop-i-preserved
-loop-i-preserved c =
+pub loop-word-preserved : goal.loop-word-preserved
+loop-word-preserved c =
     let a = c.args in
-    let l = c.loop-i in
-    laws.goes_on a.text.now a.tokens.now a.level a.name.now a.labels.now l.i l.invariant (omega arith) _ c.if-is_named.false c.is_named.ensures
+    let l = c.loop-word in
+    laws.goes_on a.text.now a.tokens.now a.level a.name.now a.labels.now l.word-index l.invariant (omega arith) _ c.if-is_named.false c.is_named.ensures
 
 pub returns : goal.returns
 returns c =
     let a = c.args in
-    let l = c.loop-i in
-    laws.ends a.text.now a.tokens.now a.level a.name.now a.labels.now l.i l.invariant (omega arith)
+    let l = c.loop-word in
+    laws.ends a.text.now a.tokens.now a.level a.name.now a.labels.now l.word-index l.invariant (omega arith)

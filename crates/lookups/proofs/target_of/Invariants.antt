@@ -2,5 +2,5 @@
 use Rattle.lookups.proofs.Targets as laws
 use Rattle.lookups.proofs.target_of.Given as goal
 
-abbrev pub invariant-loop-i : goal.invariant-loop-i
-invariant-loop-i l = laws.Left l.text l.tokens l.level l.name l.labels l.i
+abbrev pub invariant-loop-word : goal.invariant-loop-word
+invariant-loop-word l = laws.Left l.text l.tokens l.level l.name l.labels l.word-index
