@@ -114,7 +114,11 @@ fn fields_of(v: PushValue) -> ValueFields
     }
 }
 
-pub fn tell_value(answer: Result<PushValue, Refusal>, integer: &mut [i32; 1], out: &mut [u64; 4]) -> u64
+pub fn tell_value(
+    answer: Result<PushValue, Refusal>,
+    integer: &mut [i32; 1],
+    out: &mut [u64; 4],
+) -> u64
     ensures value { result ≡ returned (Values.answer answer) }
     ensures integer_after { integer.new ≡ integer_after (Values.answer answer) integer.old }
     ensures out_after { out.new ≡ value_after (Values.answer answer) out.old }

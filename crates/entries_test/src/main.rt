@@ -93,7 +93,7 @@ fn read_two(
 
 fn try_text(rt: HostRuntime, text: &[u8], name: &[u8]) {
     let mut lexed = [0u64; 64];
-    lexer::lex(text, &mut lexed);
+    let _ = lexer::lex(text, &mut lexed);
     let mut tokens = [0u64; 64];
     let mut actions = [0u64; 64];
     let mut operands = [0u64; 64];

@@ -1,7 +1,10 @@
-// Export as the programs that try it call it: into the front of each table and of the output. It promises nothing, so that a
-// check of such a program does not go through what `export` promises. With it what those programs look at afterwards: marked
+// Export as the programs that try it call it: into the front of each table and of the output. It promises nothing of what is written, so
+// that a check of such a program does not go through what `export` promises. With it what those programs look at afterwards: marked
 // tables and outputs.
 #![tactic(auto)]
+
+ghost use Rattle.handover.specs.Reading.{held_in, SameSlices};
+ghost use Rattle.held.specs.Held.{SameLengths};
 
 use action_records::Style;
 use answers::Refusal;
@@ -49,11 +52,10 @@ fn export_parts(
 }
 
 // As many words of each table are lent as is asked, of levels too; a table, or an output, that is shorter is lent whole.
-pub fn export_fronts(
-    asked: Asked,
-    tables: &mut Tables,
-    out: &mut [u8],
-) -> Result<Exported, Refusal> {
+pub fn export_fronts(asked: Asked, tables: &mut Tables, out: &mut [u8]) -> Result<Exported, Refusal>
+    ensures same_slices { SameSlices tables.old tables.new }
+    ensures same_lengths { SameLengths (held_in tables.old) (held_in tables.new) }
+{
     export_parts(
         asked,
         tables.tokens,

@@ -1,6 +1,6 @@
 -- Tables that a call holds itself, to read a text into them, perhaps to refuse it still, and to hand over at the end: what calls
 -- over `read` ask for and are told.
-use Rattle.std.specs.Prelude.{List, ◌++◌, ℕ, ◌+◌, ◌*◌, ◌≤◌, length, take, drop}
+use Rattle.std.specs.Prelude.{◌≡◌, List, ◌++◌, ℕ, ◌+◌, ◌*◌, ◌≤◌, length, take, drop}
 use Rattle.entries.specs.Entries.{level_places}
 use Rattle.reading.specs.Tables.{label_entry_word}
 use Rattle.handover.specs.declared.Counts.{Counts}
@@ -25,6 +25,12 @@ pub record Ample (n : ℕ) (h : Tables ℕ) : Type 0 where
 pub record Holds (room : ℕ) (ps text : List ℕ) (h : Tables ℕ) (r : Reading) : Type 0 where
   pub before : Tables ℕ
   pub reads : ReadsFor label_entry_word room ps text before h r
+
+-- the tables y are as long as the tables x
+abbrev pub SameLengths : (x y : Tables ℕ) → Type 0
+SameLengths x y =
+    (length y.tokens ≡ length x.tokens) × ((length y.actions ≡ length x.actions) × ((length y.operands ≡ length x.operands)
+    × ((length y.levels ≡ length x.levels) × (length y.labels ≡ length x.labels))))
 
 -- ---- handing over
 

@@ -5,7 +5,7 @@
 
 ghost use Rattle.std.specs.Prelude.{◌≡◌, length};
 ghost use Rattle.handover.specs.Reading.{lent, held_in, places_of, SameSlices};
-ghost use Rattle.held.specs.Held.{Ample, Holds, Handable, handed};
+ghost use Rattle.held.specs.Held.{Ample, Holds, SameLengths, Handable, handed};
 
 use answers::Refusal;
 use as2_pcode::{Counts, Tables};
@@ -50,6 +50,7 @@ pub fn read_held(text: &[u8], places: Counts, held: &mut Tables) -> Result<Count
     requires { Ample (length text.now) (held_in held.old) }
     ensures holds { Holds places.tokens (places_of places) text.now (held_in held.new) result }
     ensures same_slices { SameSlices held.old held.new }
+    ensures same_lengths { SameLengths (held_in held.old) (held_in held.new) }
 {
     read_slices(
         text,

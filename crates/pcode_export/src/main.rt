@@ -15,7 +15,7 @@ fn write_movie(rt: HostRuntime, out: &[u8; 655360], n: usize) {
 }
 
 fn print_refused(rt: HostRuntime, name: &[u8], text: &[u8], tokens: &mut [u64; 65536], r: Refusal) {
-    reporting::print_refused_at(rt, Stream::Errors, name, text, tokens, r);
+    reporting::print_refused_at(Printer::Errors(rt), name, text, tokens, r);
 }
 
 // An entry of each table but the tokens' takes two bytes of text or more, the top level none. That of a level has two
@@ -50,8 +50,8 @@ fn export_text(rt: HostRuntime, name: &[u8], text: &[u8], style: Style) -> Statu
 fn export_file(rt: HostRuntime, name: &[u8], style: Style) -> Status {
     let mut text = [0u8; 65537];
     match files::read_file(rt, b"pcode-export", name, &mut text) {
-        Input::Bytes(n) => export_text(rt, name, views::part(&text, 0, n), style),
-        Input::Failed => 2,
+        Some(n) => export_text(rt, name, &text[..n], style),
+        None => Status::Failed,
     }
 }
 
@@ -61,7 +61,7 @@ fn export_argument(rt: HostRuntime, i: usize, style: Style) -> Status {
         Ok(n) => export_file(rt, &name[..n], style),
         Err(_) => {
             files::say_long_argument(rt, b"pcode-export");
-            2
+            Status::Failed
         }
     }
 }
@@ -75,7 +75,7 @@ fn is_as_printed(rt: HostRuntime, i: usize) -> bool {
 }
 
 // Argument 0 is the program. The last of the others names the file, whatever its name.
-fn export_arguments(rt: HostRuntime, count: usize) -> u64 {
+fn export_arguments(rt: HostRuntime, count: usize) -> Status {
     if count < 2 {
         return export_file(rt, b"-", Style::AsPlayed);
     }
@@ -85,12 +85,8 @@ fn export_arguments(rt: HostRuntime, count: usize) -> u64 {
     if is_as_printed(rt, 1) {
         return export_argument(rt, 2, Style::AsPrinted);
     }
-    write_text(
-        rt,
-        Stream::Errors,
-        b"usage: pcode-export [--as-printed] [FILE]\n",
-    );
-    2
+    Printer::Errors(rt).text(b"usage: pcode-export [--as-printed] [FILE]\n");
+    Status::Failed
 }
 
 fn main(rt: HostRuntime) {
