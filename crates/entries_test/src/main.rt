@@ -22,7 +22,7 @@ fn print_label(rt: HostRuntime, label: Label) {
     print_field(rt, label.position);
 }
 
-// As in `held_test`, too: `Counts` is a type of `handover`, which prints nothing, and `printing` stands below it.
+// As in `held_test`: no crate below both knows `Counts` and prints.
 fn print_counts(rt: HostRuntime, c: Counts) {
     print_text(rt, b"read");
     print_field(rt, c.tokens);

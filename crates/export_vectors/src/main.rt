@@ -406,7 +406,7 @@ fn hold(
 
 fn replay(rt: HostRuntime, list: &[u8], counts: &mut [u64; 23]) {
     let mut at = 0;
-    // each turn takes as much as was read: no range or iterator gives these steps
+    // a record takes as many bytes as it says, so this is no `for`
     while at < list.len() {
         let r = records::record_at(list, at);
         let start = r.start;

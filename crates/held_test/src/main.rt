@@ -84,7 +84,7 @@ fn print_field(rt: HostRuntime, n: usize) {
     print_number(rt, n as u64);
 }
 
-// As in `entries_test`, too: `Counts` is a type of `handover`, which prints nothing, and `printing` stands below it.
+// As in `entries_test`: no crate below both knows `Counts` and prints.
 fn print_counts(rt: HostRuntime, c: Counts) {
     print_text(rt, b"read");
     print_field(rt, c.tokens);

@@ -120,7 +120,7 @@ fn replay(rt: HostRuntime, list: &[u8]) {
     let mut at = 0;
     let mut texts: u64 = 0;
     let mut good: u64 = 0;
-    // each turn takes as much as was read: no range or iterator gives these steps
+    // a record takes as many bytes as it says, so this is no `for`
     while at < list.len() {
         let j = judge(list, at);
         good += counted(rt, j.good, texts);

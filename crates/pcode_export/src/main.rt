@@ -9,11 +9,6 @@ use files::Status;
 use printing::{Printer, print_text};
 use std::env::Env;
 
-// A parameter that is an array has its length by its type, so lending it on asks no proof.
-fn write_movie(rt: HostRuntime, out: &[u8; 655360], n: usize) {
-    print_text(rt, views::part(out, 0, n));
-}
-
 fn print_refused(rt: HostRuntime, name: &[u8], text: &[u8], tokens: &mut [u64; 65536], r: Refusal) {
     reporting::print_refused_at(Printer::Errors(rt), name, text, tokens, r);
 }
@@ -36,7 +31,7 @@ fn export_text(rt: HostRuntime, name: &[u8], text: &[u8], style: Style) -> Statu
     };
     match export::export(text, &mut tables, style, &mut out) {
         Ok(exported) => {
-            write_movie(rt, &out, exported.bytes);
+            print_text(rt, views::part(&out, 0, exported.bytes));
             Status::Read
         }
         Err(r) => {

@@ -82,7 +82,7 @@ fn hold(rt: HostRuntime, list: &[u8], stop: usize, next: usize, text: &[u8], tot
 fn replay(rt: HostRuntime, list: &[u8]) -> Totals {
     let mut totals = Totals::default();
     let mut at = 0;
-    // each turn takes as much as was read: no range or iterator gives these steps
+    // a record takes as many bytes as it says, so this is no `for`
     while at < list.len() {
         let r = records::record_at(list, at);
         hold(

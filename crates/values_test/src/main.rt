@@ -45,7 +45,7 @@ fn print_value(rt: HostRuntime, answer: Result<PushValue, Refusal>) {
     }
 }
 
-// Apart from `print_integer`: `print_number` and `print_signed` are two functions, and one generic would be lent which.
+// Not one generic with `print_integer`: it would take the function that prints as well, and be no shorter.
 fn print_natural(rt: HostRuntime, n: Option<u64>) {
     match n {
         Some(k) => print_number(rt, k),
