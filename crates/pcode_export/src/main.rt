@@ -5,12 +5,38 @@
 use action_records::Style;
 use answers::Refusal;
 use as2_pcode::Tables;
+use export::Exported;
 use files::Status;
 use printing::{Printer, print_text};
 use std::env::Env;
 
+// A parameter that is an array has its length by its type, so lending it on asks no proof.
+fn write_movie(rt: HostRuntime, out: &[u8; 655360], n: usize) {
+    print_text(rt, views::part(out, 0, n));
+}
+
 fn print_refused(rt: HostRuntime, name: &[u8], text: &[u8], tokens: &mut [u64; 65536], r: Refusal) {
     reporting::print_refused_at(Printer::Errors(rt), name, text, tokens, r);
+}
+
+fn export_into(
+    text: &[u8],
+    tokens: &mut [u64; 65536],
+    actions: &mut [u64; 32769],
+    operands: &mut [u64; 32769],
+    levels: &mut [u64; 65538],
+    labels: &mut [u64; 32769],
+    style: Style,
+    out: &mut [u8; 655360],
+) -> Result<Exported, Refusal> {
+    let mut tables = Tables {
+        tokens,
+        actions,
+        operands,
+        levels,
+        labels,
+    };
+    export::export(text, &mut tables, style, out)
 }
 
 // An entry of each table but the tokens' takes two bytes of text or more, the top level none. That of a level has two
@@ -22,16 +48,19 @@ fn export_text(rt: HostRuntime, name: &[u8], text: &[u8], style: Style) -> Statu
     let mut levels = [0u64; 65538];
     let mut labels = [0u64; 32769];
     let mut out = [0u8; 655360];
-    let mut tables = Tables {
-        tokens: &mut tokens,
-        actions: &mut actions,
-        operands: &mut operands,
-        levels: &mut levels,
-        labels: &mut labels,
-    };
-    match export::export(text, &mut tables, style, &mut out) {
+    let exported = export_into(
+        text,
+        &mut tokens,
+        &mut actions,
+        &mut operands,
+        &mut levels,
+        &mut labels,
+        style,
+        &mut out,
+    );
+    match exported {
         Ok(exported) => {
-            print_text(rt, views::part(&out, 0, exported.bytes));
+            write_movie(rt, &out, exported.bytes);
             Status::Read
         }
         Err(r) => {
