@@ -20,7 +20,7 @@
  *
  * What a call does: it writes what is told here and nothing else. It keeps no pointer, has no state and allocates nothing, so threads
  * may call at the same time with tables and out of their own. Its stack depends on the length of the text: the constants PCODE_.._STACK,
- * in bytes. The worst text found takes 1,920,224 of pcode_read and 3,969,200 of pcode_export, so give a thread that calls them 6,291,456
+ * in bytes. The worst text found takes 1,836,288 of pcode_read and 3,671,904 of pcode_export, so give a thread that calls them 6,291,456
  * (PCODE_THREAD_STACK). A main thread usually has 8,388,608.
  *
  * A call that can refuse returns 0, or the number of the refusal. A refusal changes no table and no output. Its place goes to out[0] of
@@ -84,11 +84,11 @@ extern "C" {
 
 /* Bytes of stack, measured for the worst texts that were found, and some ten percent more; compare/stack holds the calls to them. The
  * number behind a name is the length of text, in bytes, up to which it holds; without one it holds for any text. */
-#define PCODE_READ_STACK_4096 960000
+#define PCODE_READ_STACK_4096 196000
 #define PCODE_READ_STACK_16384 1250000
 #define PCODE_READ_STACK 2110000
-#define PCODE_EXPORT_STACK_1024 1200000
-#define PCODE_EXPORT_STACK_4096 1200000
+#define PCODE_EXPORT_STACK_1024 336000
+#define PCODE_EXPORT_STACK_4096 463000
 #define PCODE_EXPORT_STACK 4270000
 #define PCODE_LEX_STACK_1024 11500
 #define PCODE_LEX_STACK_4096 84000
