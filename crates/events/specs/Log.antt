@@ -29,7 +29,7 @@ abbrev pub word_of : Event → ℕ
 word_of (E.Action n) = log_word 0 n
 word_of (E.Label n) = log_word 1 n
 word_of (E.Operand n) = log_word 2 n
-word_of (E.Opened b) = log_word 3 (block_number b)
+word_of (E.Opened n) = log_word 3 n
 word_of E.Closed = log_word 4 0
 
 abbrev pub kind_of : ℕ → ℕ
@@ -43,7 +43,7 @@ abbrev pub by_kind : ℕ → ℕ → Event
 by_kind zero n = E.Action n
 by_kind (suc zero) n = E.Label n
 by_kind (suc (suc zero)) n = E.Operand n
-by_kind (suc (suc (suc zero))) n = E.Opened (block_of n)
+by_kind (suc (suc (suc zero))) n = E.Opened n
 by_kind (suc (suc (suc (suc k)))) n = E.Closed
 
 unfoldable pub event_of : ℕ → Event
@@ -53,5 +53,5 @@ abbrev pub Holds : Event → Type 0
 Holds (E.Action n) = Holdable n
 Holds (E.Label n) = Holdable n
 Holds (E.Operand n) = Holdable n
-Holds (E.Opened b) = Unit {0}
+Holds (E.Opened n) = Holdable n
 Holds E.Closed = Unit {0}

@@ -2,7 +2,7 @@
 #![tactic(auto)]
 
 ghost use Rattle.std.specs.Prelude.{◌≡◌, ◌≤◌};
-ghost use Rattle.events.specs.Log.{block_number, block_of, word_of, kind_of, event_of, Holds};
+ghost use Rattle.events.specs.Log.{block_number, block_of, Holdable, log_word, word_of, kind_of, event_of, Holds};
 
 // Which block of its action a block is.
 #[derive(Clone, Copy)]
@@ -13,17 +13,18 @@ pub enum BlockKind {
     Finally,
 }
 
-// An action with its number, a label and an operand with their tokens, a block that opens and a level that closes.
+// An action with its number, a label and an operand with their tokens, a block that opens with the number of its kind, and a level
+// that closes.
 #[derive(Clone, Copy)]
 pub enum Event {
     Action(u64),
     Label(u64),
     Operand(u64),
-    Opened(BlockKind),
+    Opened(u64),
     Closed,
 }
 
-fn block_number(block: BlockKind) -> u64
+pub fn block_number(block: BlockKind) -> u64
     ensures { (result ≡ block_number block) × (result ≤ 3) }
 {
     match block {
@@ -34,7 +35,7 @@ fn block_number(block: BlockKind) -> u64
     }
 }
 
-fn block_of(number: u64) -> BlockKind
+pub fn block_of(number: u64) -> BlockKind
     ensures { result ≡ block_of number }
 {
     match number {
@@ -45,16 +46,23 @@ fn block_of(number: u64) -> BlockKind
     }
 }
 
-pub fn log_word(event: Event) -> u64
+pub fn log_word(kind: u64, holds: u64) -> u64
+    requires { (kind ≤ 4) × Holdable holds }
+    ensures { result ≡ log_word kind holds }
+{
+    kind * 1048576 + holds
+}
+
+pub fn event_word(event: Event) -> u64
     requires { Holds event }
     ensures { result ≡ word_of event }
 {
     match event {
-        Event::Action(number) => number,
-        Event::Label(token) => 1048576 + token,
-        Event::Operand(token) => 2 * 1048576 + token,
-        Event::Opened(block) => 3 * 1048576 + block_number(block),
-        Event::Closed => 4 * 1048576,
+        Event::Action(number) => log_word(0, number),
+        Event::Label(token) => log_word(1, token),
+        Event::Operand(token) => log_word(2, token),
+        Event::Opened(number) => log_word(3, number),
+        Event::Closed => log_word(4, 0),
     }
 }
 
@@ -73,7 +81,7 @@ pub fn event_of(word: u64) -> Event
         0 => Event::Action(holds),
         1 => Event::Label(holds),
         2 => Event::Operand(holds),
-        3 => Event::Opened(block_of(holds)),
+        3 => Event::Opened(holds),
         _ => Event::Closed,
     }
 }

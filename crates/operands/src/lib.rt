@@ -4,12 +4,12 @@
 
 ghost use Rattle.std.specs.Prelude.{◌≡◌, true, ◌≤◌, set, Ok};
 ghost use Rattle.classes.specs.Lexemes.{fits_at};
-ghost use Rattle.events.specs.Log.{Holds, word_of};
+ghost use Rattle.events.specs.Log.{Holdable, log_word, Holds, word_of};
 ghost use Rattle.operands.specs.Log.{passed, logged};
 ghost use Rattle.operands.specs.Contract.{Fine, OperandRead, CommaRead, NextRead, TwoRead, ThreeRead, RepeatRead, PairRead, PairsRead, NameRead, CountRead, NamesRead, FunctionRead, FlagsRead, FlagsPairsRead, RegistersRead, Function2Read, FrameRead, ValuesRead, ListRead, OperandsRead};
 
 use classes::{Class, count_at, fits_at, is_count, is_kind_at};
-use events::{Event, log_word};
+use events::{Event, event_word, log_word};
 use shapes::Shape;
 use tokens::TokenKind;
 
@@ -29,14 +29,30 @@ pub enum Unread {
 
 // ---- the log
 
+// Writes a word, if the log has that place.
+fn put_word(events: &mut [u64], n: usize, word: u64)
+    ensures { events.new ≡ set events.old n word }
+{
+    if n < events.len() {
+        events[n] = word;
+    }
+}
+
+// Writes an event by the number of its kind and what it holds, if the log has that place.
+pub fn write_event(events: &mut [u64], n: usize, kind: u64, holds: u64)
+    requires kind_bound { kind ≤ 4 }
+    requires holdable { Holdable holds }
+    ensures { events.new ≡ set events.old n (log_word kind holds) }
+{
+    put_word(events, n, log_word(kind, holds));
+}
+
 // Writes an event, if the log has that place.
-pub fn write_event(events: &mut [u64], n: usize, event: Event)
+pub fn log_event(events: &mut [u64], n: usize, event: Event)
     requires { Holds event }
     ensures { events.new ≡ set events.old n (word_of event) }
 {
-    if n < events.len() {
-        events[n] = log_word(event);
-    }
+    put_word(events, n, event_word(event));
 }
 
 // Past a token that is no event.
@@ -70,7 +86,7 @@ fn given(text: &[u8], s: &[u64], events: &mut [u64], c: At, m: Class) -> At
     requires at_value { fits_at m text.now s.now c.at ≡ true }
     ensures { OperandRead m text.now s.now events.old events.new c (Ok result) }
 {
-    write_event(events, c.events, Event::Operand(c.at as u64));
+    log_event(events, c.events, Event::Operand(c.at as u64));
     logged(c)
 }
 
@@ -179,7 +195,7 @@ fn count(text: &[u8], s: &[u64], events: &mut [u64], c: At) -> Result<At, Unread
     ensures { CountRead text.now s.now events.old events.new c result }
 {
     if is_count(text, s, c.at) {
-        write_event(events, c.events, Event::Operand(c.at as u64));
+        log_event(events, c.events, Event::Operand(c.at as u64));
         Ok(logged(c))
     } else {
         Err(Unread::Bad(c.at))

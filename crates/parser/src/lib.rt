@@ -10,8 +10,8 @@ ghost use Rattle.parser.specs.Parsed.{Parsed};
 
 use actions::action_number;
 use classes::{Class, fits_at, is_kind_at};
-use events::{BlockKind, Event};
-use operands::{At, Unread, logged, operands, passed, write_event};
+use events::{BlockKind, Event, block_number};
+use operands::{At, Unread, log_event, logged, operands, passed};
 use shapes::{Shape, shape_of};
 use tokens::{TokenKind, token_of};
 
@@ -59,7 +59,7 @@ fn label(text: &[u8], s: &[u64], events: &mut [u64], c: At) -> Result<At, Unread
     requires at_value { kind_at s.now c.at ≡ 7 }
     ensures { LabelRead text.now s.now events.old events.new c result }
 {
-    write_event(events, c.events, Event::Label(c.at as u64));
+    log_event(events, c.events, Event::Label(c.at as u64));
     colon(text, s, logged(c))
 }
 
@@ -133,7 +133,7 @@ fn give_target(events: &mut [u64], c: At, a: Option<usize>) -> At
     match a {
         None => c,
         Some(t) => {
-            write_event(events, c.events, Event::Operand(t as u64));
+            log_event(events, c.events, Event::Operand(t as u64));
             At {
                 at: c.at,
                 events: c.events + 1,
@@ -161,7 +161,7 @@ fn actions(
     while p.at < s.len() {
         if is_kind_at(s, p.at, TokenKind::CloseBrace) {
             if inside {
-                write_event(events, p.events, Event::Closed);
+                log_event(events, p.events, Event::Closed);
                 return Ok(logged(p));
             }
             return Err(Unread::Bad(p.at));
@@ -203,7 +203,7 @@ fn action(text: &[u8], s: &[u64], events: &mut [u64], c: At, room: usize) -> Res
     let TokenKind::ActionName(name) = token_of(s[c.at]).kind else {
         return Err(Unread::Bad(c.at));
     };
-    write_event(events, c.events, Event::Action(action_number(name) as u64));
+    log_event(events, c.events, Event::Action(action_number(name) as u64));
     let w = shape_of(name);
     let p = operands(text, s, events, logged(c), w)?;
     blocks(text, s, events, p, room, w)
@@ -271,7 +271,7 @@ fn block(
     if room == 0 {
         return Err(Unread::Deep(c.at));
     }
-    write_event(events, c.events, Event::Opened(b));
+    log_event(events, c.events, Event::Opened(block_number(b)));
     actions(text, s, events, logged(c), room - 1, true)
 }
 

@@ -12,7 +12,7 @@ use lib.Seq.{sets, drop-cons}
 use Rattle.events.specs.declared.BlockKind.{BlockKind}
 use Rattle.events.specs.declared.Event.{Event}
 use Rattle.events.specs.declared.Event.TheVariants as E
-use Rattle.events.specs.Log.{event_of}
+use Rattle.events.specs.Log.{event_of, block_of}
 use Rattle.writing.specs.Writing.{deeper, is_try, gather_by, gather, unclosed_at, unclosed_of, given}
 
 pub gather-deep : (d w : ℕ) (l : List ℕ) → 0 < d → gather d (w ∷ l) ≡ gather (deeper (event_of w) d) l
@@ -136,14 +136,18 @@ module _ (s log : List ℕ) (from a at : ℕ) (old new : List ℕ) (d end u i : 
             long = ap length e ∙ length-set new end (given s a t) ∙ g.long;
           }
 
-      pub tries : (b : BlockKind) → v ≡ E.Opened b → true ≡ is_try b → Giving s log from a at old new 1 end u (i + 1)
-      tries b f e = pass 1 (by (E.Opened b) f ∙ ap (λ q. cond q (gather 1 (drop (i + 1) log)) []) (sym e)) (omega arith)
+      -- what follows a block, by whether it is a try block
+      block-by : (n : ℕ) → v ≡ E.Opened n → (b : BlockKind) → b ≡ block_of n → (t : Bool) → t ≡ is_try b → gather d (drop i log) ≡ cond t (gather 1 (drop (i + 1) log)) []
+      block-by n f b k t e = by (E.Opened n) f ∙ ap (λ q. cond q (gather 1 (drop (i + 1) log)) []) (sym (e ∙ ap is_try k))
+
+      pub tries : (n : ℕ) → v ≡ E.Opened n → (b : BlockKind) → b ≡ block_of n → true ≡ is_try b → Giving s log from a at old new 1 end u (i + 1)
+      tries n f b k e = pass 1 (block-by n f b k true e) (omega arith)
 
       ended : gather d (drop i log) ≡ [] → Gave s log from a at old new end u
       ended z = finish s log from a at old new d end u i g z
 
-      pub opens : (b : BlockKind) → v ≡ E.Opened b → false ≡ is_try b → Gave s log from a at old new end u
-      opens b f e = ended (by (E.Opened b) f ∙ ap (λ q. cond q (gather 1 (drop (i + 1) log)) []) (sym e))
+      pub opens : (n : ℕ) → v ≡ E.Opened n → (b : BlockKind) → b ≡ block_of n → false ≡ is_try b → Gave s log from a at old new end u
+      opens n f b k e = ended (block-by n f b k false e)
 
       stops : (q : Event) → v ≡ q → gather_by q (gather 0 (drop (i + 1) log)) (gather 1 (drop (i + 1) log)) ≡ [] → Gave s log from a at old new end u
       stops q f n = ended (by q f ∙ n)

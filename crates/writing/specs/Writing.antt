@@ -9,7 +9,7 @@ use Rattle.events.specs.declared.BlockKind.{BlockKind}
 use Rattle.events.specs.declared.BlockKind.TheVariants as K
 use Rattle.events.specs.declared.Event.{Event}
 use Rattle.events.specs.declared.Event.TheVariants as E
-use Rattle.events.specs.Log.{event_of}
+use Rattle.events.specs.Log.{event_of, block_of as block_kind}
 use Rattle.entries.specs.declared.Block.{Block}
 use Rattle.entries.specs.declared.Block.TheVariants as B
 use Rattle.entries.specs.Entries.{action_word, action_of, operand_word, level_words, level_at, owner_of}
@@ -26,7 +26,7 @@ abbrev pub deeper : Event → ℕ → ℕ
 deeper (E.Action n) d = d
 deeper (E.Label t) d = d
 deeper (E.Operand t) d = d
-deeper (E.Opened b) d = d + 1
+deeper (E.Opened n) d = d + 1
 deeper E.Closed d = d - 1
 
 abbrev pub is_try : BlockKind → Bool
@@ -40,7 +40,7 @@ abbrev pub gather_by : Event → List ℕ → List ℕ → List ℕ
 gather_by (E.Action n) next behind = []
 gather_by (E.Label t) next behind = []
 gather_by (E.Operand t) next behind = t ∷ next
-gather_by (E.Opened b) next behind = cond (is_try b) behind []
+gather_by (E.Opened n) next behind = cond (is_try (block_kind n)) behind []
 gather_by E.Closed next behind = []
 
 -- the operands of the action before these events: those that follow at once, and those that follow its try block, of which d
@@ -144,7 +144,7 @@ abbrev pub by : (text s : List ℕ) → Event → List ℕ → Written → Writt
 by text s (E.Action n) rest T = acted text s (action_at n) rest T
 by text s (E.Label t) rest T = T
 by text s (E.Operand t) rest T = T
-by text s (E.Opened b) rest T = opened b T
+by text s (E.Opened n) rest T = opened (block_kind n) T
 by text s E.Closed rest T = closed T
 
 unfoldable pub step : (text s : List ℕ) → ℕ → List ℕ → Written → Written

@@ -107,8 +107,8 @@ fn give_operands(
                 unclosed += usize::from(is_unclosed);
                 end += 1;
             }
-            Event::Opened(kind) => {
-                if !is_try(kind) {
+            Event::Opened(number) => {
+                if !is_try(events::block_of(number)) {
                     return Given { end, unclosed };
                 }
                 depth = 1;
@@ -244,7 +244,7 @@ fn write_event(
             act(text, s, log, i + 1, name, w, actions, operands, levels)
         }
         Event::Label(_) | Event::Operand(_) => w,
-        Event::Opened(kind) => open(kind, w, levels),
+        Event::Opened(number) => open(events::block_of(number), w, levels),
         Event::Closed => close(w, actions, levels),
     }
 }

@@ -12,13 +12,13 @@ use Rattle.parser.proofs.+parser.Goals as goal
 pub action-returns-in_default : goal.action-returns-in_default
 action-returns-in_default t c = action_not _ _ _ _ _ _ c.requires.fine c.requires.at_in_bounds c.requires.plain c.token_of.ensures c.in_default.not-ActionName
 
-pub action-write_event-requires : goal.action-write_event-requires
-action-write_event-requires t c = search number_fits
+pub action-log_event-requires : goal.action-log_event-requires
+action-log_event-requires t c = search number_fits
 
 pub action-returns-in_err-p : goal.action-returns-in_err-p
 action-returns-in_err-p t c =
     rw (met c.from_residual.ensures.1)
-    (search (operands-bad, c.in_err-p.ensures, c.shape_of-w.ensures, c.logged.ensures, c.write_event.ensures, c.action_number.ensures, c.in-ActionName.is, c.token_of.ensures, c.requires))
+    (search (operands-bad, c.in_err-p.ensures, c.shape_of-w.ensures, c.logged.ensures, c.log_event.ensures, c.action_number.ensures, c.in-ActionName.is, c.token_of.ensures, c.requires))
 
 pub action-blocks-requires : goal.action-blocks-requires
 action-blocks-requires t c =
@@ -26,7 +26,7 @@ action-blocks-requires t c =
 
 pub action-returns : goal.action-returns
 action-returns t c =
-    search (action-whole, c.blocks-2.ensures, c.in_ok-p.ensures, c.shape_of-w.ensures, c.logged.ensures, c.write_event.ensures, c.action_number.ensures, c.in-ActionName.is, c.token_of.ensures, c.requires)
+    search (action-whole, c.blocks-2.ensures, c.in_ok-p.ensures, c.shape_of-w.ensures, c.logged.ensures, c.log_event.ensures, c.action_number.ensures, c.in-ActionName.is, c.token_of.ensures, c.requires)
 
 -- ---- actions
 

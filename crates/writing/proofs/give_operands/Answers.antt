@@ -40,12 +40,12 @@ loop-i-preserved c =
           (one_more c.loop-i.unclosed w.from-unclosed.result _ w.from-unclosed.ensures))
       | in-Opened+else-not-is_try w ↦
           rw (w.operands-is, w.depth-is, w.end-is, w.unclosed-is)
-          (tries _ _ _ _ _ _ _ _ _ _ _ c.loop-i.invariant c.loop-i-test.true _ c.event_of-event.ensures.value c.if-depth-gt0.false _ w.in-Opened.is (sym w.if-not-is_try.false ∙ w.is_try.ensures))
+          (tries _ _ _ _ _ _ _ _ _ _ _ c.loop-i.invariant c.loop-i-test.true _ c.event_of-event.ensures.value c.if-depth-gt0.false _ w.in-Opened.is _ w.block_of.ensures (sym w.if-not-is_try.false ∙ w.is_try.ensures))
     ]
 
 pub returns-then-not-is_try : goal.returns-then-not-is_try
 returns-then-not-is_try c =
-    let got = opens _ _ _ _ _ _ _ _ _ _ _ c.loop-i.invariant c.loop-i-test.true _ c.event_of-event.ensures.value c.if-depth-gt0.false _ c.in-Opened.is (sym c.if-not-is_try.true ∙ c.is_try.ensures) in
+    let got = opens _ _ _ _ _ _ _ _ _ _ _ c.loop-i.invariant c.loop-i-test.true _ c.event_of-event.ensures.value c.if-depth-gt0.false _ c.in-Opened.is _ c.block_of.ensures (sym c.if-not-is_try.true ∙ c.is_try.ensures) in
     record { operands_after = got.0; end_value = got.1.0; unclosed_value = got.1.1.0; unclosed_bound = got.1.1.1 }
 
 pub returns-in-Action : goal.returns-in-Action

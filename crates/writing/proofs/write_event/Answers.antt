@@ -3,7 +3,7 @@ use mathlib.Core.Path.{ap, ◌∙◌}
 use Prim.Native.Nat.{◌+◌}
 use native.Mathlib.Omega.{arith}
 use lib.ListN.{drop}
-use Rattle.writing.specs.Writing.{acted, written}
+use Rattle.writing.specs.Writing.{acted, opened, written}
 use Rattle.writing.proofs.Turns.{opened-is, closed_is, arm, idle, wider, widest, acts-small, stays_small, opens_small, closes_small}
 use Rattle.writing.proofs.write_event.Goals as goal
 
@@ -31,7 +31,12 @@ returns-in-Label c =
 pub returns-in-Opened : goal.returns-in-Opened
 returns-in-Opened c =
     let p = c.requires in
-    let e = c.open.ensures in record { result_after = arm _ _ _ _ _ _ _ _ c.event_of-event.ensures.value c.in-Opened.is (opened-is _ _ _ _ _ _ _ e.value e.levels_after); behind = opens_small _ _ p.1.1 (omega (arith, p.0, p.1.0)) _ e.value }
+    let a = c.args in
+    let e = c.open.ensures in record {
+      result_after = arm _ _ _ _ _ _ _ _ c.event_of-event.ensures.value c.in-Opened.is
+          (opened-is _ _ _ _ _ _ _ e.value e.levels_after ∙ ap (λ b. opened b (written a.actions.now a.operands.now a.levels.now a.w)) c.block_of.ensures);
+      behind = opens_small _ _ p.1.1 (omega (arith, p.0, p.1.0)) _ e.value;
+    }
 
 pub returns-in-Closed : goal.returns-in-Closed
 returns-in-Closed c =
