@@ -11,7 +11,7 @@ use action_records::Style;
 use answers::Refusal;
 use as2_pcode::{Counts, Tables};
 use export_scratch::export_reading;
-use held::{hand_held, read_held};
+use held::{hand_tables, read_held};
 use level_trees::Source;
 
 // The counts of reading, and how many bytes were written.
@@ -64,7 +64,7 @@ fn export_held(
     };
     let counts = read_held(text, places, held)?;
     let bytes = pass_held(text, counts, held, style, out)?;
-    hand_held(counts, held, tables);
+    hand_tables(counts, held, tables);
     Ok(Exported { counts, bytes })
 }
 

@@ -1,6 +1,6 @@
 // Reading into tables that a call holds itself, with the answer for tables that are lent: for calls that may still refuse a text
 // that reading accepts, and must then have changed nothing. Such a call reads by `read_held`, does its work, and hands over by
-// `hand_held`.
+// `hand_held` or, of tables that are one value, `hand_tables`.
 #![tactic(auto)]
 
 ghost use Rattle.std.specs.Prelude.{◌≡◌, length};
@@ -63,15 +63,41 @@ pub fn read_held(text: &[u8], places: Counts, held: &mut Tables) -> Result<Count
     )
 }
 
-// Hands that many entries of the held tables over to the lent ones.
-pub fn hand_held(counts: Counts, held: &Tables, tables: &mut Tables)
-    requires { Handable counts (held_in held.now) (held_in tables.old) }
-    ensures hands_over { held_in tables.new ≡ handed counts (held_in held.now) (held_in tables.old) }
+// Hands that many entries of the held tables over to the lent ones. The held tables are only read, so that a caller may have them as
+// shared slices, one for two of them if it likes.
+pub fn hand_held(
+    counts: Counts,
+    held_tokens: &[u64],
+    held_actions: &[u64],
+    held_operands: &[u64],
+    held_levels: &[u64],
+    held_labels: &[u64],
+    tables: &mut Tables,
+)
+    requires { Handable counts (lent held_tokens.now held_actions.now held_operands.now held_levels.now held_labels.now) (held_in tables.old) }
+    ensures hands_over { held_in tables.new ≡ handed counts (lent held_tokens.now held_actions.now held_operands.now held_levels.now held_labels.now) (held_in tables.old) }
     ensures same_slices { SameSlices tables.old tables.new }
 {
-    copy_front(held.tokens, counts.tokens, tables.tokens);
-    copy_front(held.actions, counts.actions, tables.actions);
-    copy_front(held.operands, counts.operands, tables.operands);
-    copy_front(held.levels, 2 * counts.levels, tables.levels);
-    copy_front(held.labels, counts.labels, tables.labels);
+    copy_front(held_tokens, counts.tokens, tables.tokens);
+    copy_front(held_actions, counts.actions, tables.actions);
+    copy_front(held_operands, counts.operands, tables.operands);
+    copy_front(held_levels, 2 * counts.levels, tables.levels);
+    copy_front(held_labels, counts.labels, tables.labels);
+}
+
+// The same of held tables that are one value.
+pub fn hand_tables(counts: Counts, from: &Tables, tables: &mut Tables)
+    requires { Handable counts (held_in from.now) (held_in tables.old) }
+    ensures hands_over { held_in tables.new ≡ handed counts (held_in from.now) (held_in tables.old) }
+    ensures same_slices { SameSlices tables.old tables.new }
+{
+    hand_held(
+        counts,
+        from.tokens,
+        from.actions,
+        from.operands,
+        from.levels,
+        from.labels,
+        tables,
+    );
 }

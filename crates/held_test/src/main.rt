@@ -13,7 +13,7 @@ use answers::Refusal;
 use as2_pcode::{Counts, Tables};
 use checking::check;
 use entries::{Net, level_in};
-use held::{hand_held, read_held};
+use held::{hand_tables, read_held};
 use printing::{print_number, print_refusal, print_text};
 
 // Whether the net of the top level is undetermined.
@@ -43,7 +43,7 @@ fn finish(
     if is_undetermined(held.levels) {
         return Err(Refusal::Undetermined);
     }
-    hand_held(counts, held, tables);
+    hand_tables(counts, held, tables);
     Ok(counts)
 }
 

@@ -8,8 +8,8 @@ use Rattle.export.proofs.export_held.Goals as goal
 pub pass_held-requires : goal.pass_held-requires
 pass_held-requires c = held_by_lem (held-read c.read_held.ensures.holds c.in_ok-counts.was)
 
-pub hand_held-requires : goal.hand_held-requires
-hand_held-requires c =
+pub hand_tables-requires : goal.hand_tables-requires
+hand_tables-requires c =
     let w = c.read_held.ensures.holds in
     handable _ w.before _ _ _ (held-read w c.in_ok-counts.was)
 
@@ -35,4 +35,4 @@ returns-clause-exports c =
     let q = c.read_held in
     let w = c.pass_held in
     exported-all a.style a.text.now (held_in q.new.held) (held_in a.tables.now) q.result q.ensures.holds a.out.now _ c.in_ok-counts.was w.new.out w.result w.ensures _ c.in_ok-bytes.was
-    _ c.hand_held.ensures.hands_over
+    _ c.hand_tables.ensures.hands_over

@@ -14,9 +14,9 @@ pub returns-then-is_undetermined-clause-reads : goal.returns-then-is_undetermine
 returns-then-is_undetermined-clause-reads c =
     laws.undetermined _ _ _ _ c.requires _ c.in_ok-counts.was _ c.is_undetermined.ensures c.if-is_undetermined.true
 
-pub hand_held-requires : goal.hand_held-requires
-hand_held-requires c = handable _ c.requires.before _ _ _ (held-read c.requires c.in_ok-counts.was)
+pub hand_tables-requires : goal.hand_tables-requires
+hand_tables-requires c = handable _ c.requires.before _ _ _ (held-read c.requires c.in_ok-counts.was)
 
 pub returns-clause-reads : goal.returns-clause-reads
 returns-clause-reads c =
-    laws.determined _ _ _ _ c.requires _ c.in_ok-counts.was _ c.is_undetermined.ensures c.if-is_undetermined.false _ c.hand_held.ensures.hands_over
+    laws.determined _ _ _ _ c.requires _ c.in_ok-counts.was _ c.is_undetermined.ensures c.if-is_undetermined.false _ c.hand_tables.ensures.hands_over
