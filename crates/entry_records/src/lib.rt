@@ -181,15 +181,15 @@ impl Totals {
     }
 
     pub fn print(self, rt: HostRuntime) {
-        print_count(rt, self.texts, " texts, ");
-        print_count(rt, self.refused, " refused\n");
-        print_count(rt, self.actions, " actions, ");
-        print_count(rt, self.operands, " operands, ");
-        print_count(rt, self.closed, " strings closed, ");
-        print_count(rt, self.unclosed, " unclosed, ");
-        print_count(rt, self.levels, " levels, ");
-        print_count(rt, self.labels, " labels\n");
-        print_count(rt, self.passed, " numbers passed over\n");
-        print_count(rt, self.differences, " differences\n");
+        print_count(rt, self.texts, b" texts, ");
+        print_count(rt, self.refused, b" refused\n");
+        print_count(rt, self.actions, b" actions, ");
+        print_count(rt, self.operands, b" operands, ");
+        print_count(rt, self.closed, b" strings closed, ");
+        print_count(rt, self.unclosed, b" unclosed, ");
+        print_count(rt, self.levels, b" levels, ");
+        print_count(rt, self.labels, b" labels\n");
+        print_count(rt, self.passed, b" numbers passed over\n");
+        print_count(rt, self.differences, b" differences\n");
     }
 }

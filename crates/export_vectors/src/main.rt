@@ -361,7 +361,7 @@ fn hold_answer(
     let mut c = Cursor::new(list, at);
     expect_answer(&mut c, told, out);
     c.end(next);
-    records::print_difference(rt, count_of(counts, CALLS), "vectors", c.wrong);
+    records::print_difference(rt, count_of(counts, CALLS), b"vectors", c.wrong);
     if c.wrong.is_some() {
         add(counts, DIFFERENCES, 1);
     }
@@ -436,28 +436,28 @@ fn print_refusals(rt: HostRuntime, counts: &[u64; 23]) {
 }
 
 fn print_counts(rt: HostRuntime, counts: &[u64; 23]) {
-    records::print_count(rt, count_of(counts, CALLS), " calls, ");
-    records::print_count(rt, count_of(counts, 0), " accepted");
+    records::print_count(rt, count_of(counts, CALLS), b" calls, ");
+    records::print_count(rt, count_of(counts, 0), b" accepted");
     print_refusals(rt, counts);
     print_text(rt, b"\n");
-    records::print_count(rt, count_of(counts, BYTES), " bytes compared\n");
+    records::print_count(rt, count_of(counts, BYTES), b" bytes compared\n");
     records::print_count(
         rt,
         count_of(counts, FULL_OUTPUTS),
-        " outputs exactly full, ",
+        b" outputs exactly full, ",
     );
-    records::print_count(rt, count_of(counts, SHORT_OUTPUTS), " one byte short\n");
+    records::print_count(rt, count_of(counts, SHORT_OUTPUTS), b" one byte short\n");
     records::print_count(
         rt,
         count_of(counts, FULL_TABLES),
-        " times all tables exactly full, ",
+        b" times all tables exactly full, ",
     );
     records::print_count(
         rt,
         count_of(counts, SHORT_TABLES),
-        " tables one place short\n",
+        b" tables one place short\n",
     );
-    records::print_count(rt, count_of(counts, DIFFERENCES), " differences\n");
+    records::print_count(rt, count_of(counts, DIFFERENCES), b" differences\n");
 }
 
 fn main(rt: HostRuntime) -> io::Result<()> {

@@ -234,11 +234,17 @@ pub enum Status {
 // Where the scripts at the root read a program's status from: a program of Rattle has none of its own.
 const STATUS: &str = "/dev/fd/3";
 
-fn write_status(rt: HostRuntime, status: Status) -> io::Result<()> {
+fn write_status(rt: HostRuntime, status: u64) -> io::Result<()> {
     let mut file = OpenOptions::new().append(true).open(&rt, STATUS)?;
-    write!(file, "{}\n", status as u8)
+    write!(file, "{status}\n")
 }
 
-pub fn tell_status(rt: HostRuntime, status: Status) {
+pub fn tell_status(rt: HostRuntime, status: u64) {
     let _ = write_status(rt, status);
+}
+
+impl Status {
+    pub fn tell(self, rt: HostRuntime) {
+        tell_status(rt, self as u64);
+    }
 }

@@ -49,10 +49,13 @@ fn print_label(rt: HostRuntime, of: Source, l: Label) {
 
 // The table of labels has them by level and order.
 fn print_entries(rt: HostRuntime, of: Source, c: Counts) {
-    let _ = print!(rt;
-        "actions {} labels {} levels {}\n",
-        c.actions, c.labels, c.levels
-    );
+    print_text(rt, b"actions ");
+    print_number(rt, c.actions as u64);
+    print_text(rt, b" labels ");
+    print_number(rt, c.labels as u64);
+    print_text(rt, b" levels ");
+    print_number(rt, c.levels as u64);
+    print_text(rt, b"\n");
     for i in 0..c.actions {
         print_action(rt, of, i);
     }

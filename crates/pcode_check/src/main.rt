@@ -91,10 +91,10 @@ fn main(rt: HostRuntime) {
     let count = files::argument_count(rt);
     if count < 2 {
         Printer::Errors(rt).text(b"usage: pcode-check FILE..\n");
-        files::tell_status(rt, Status::Failed);
+        Status::Failed.tell(rt);
         return;
     }
     let t = check_arguments(rt, count);
     print_tally(rt, t, count - 1);
-    files::tell_status(rt, t.status());
+    t.status().tell(rt);
 }

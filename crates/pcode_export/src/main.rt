@@ -114,5 +114,5 @@ fn export_arguments(rt: HostRuntime, count: usize) -> Status {
 }
 
 fn main(rt: HostRuntime) {
-    files::tell_status(rt, export_arguments(rt, files::argument_count(rt)));
+    export_arguments(rt, files::argument_count(rt)).tell(rt);
 }

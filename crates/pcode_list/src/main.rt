@@ -66,7 +66,7 @@ fn list(rt: HostRuntime, text: &[u8]) {
     } else {
         Status::Refused
     };
-    files::tell_status(rt, status);
+    status.tell(rt);
 }
 
 // A byte more than is listed tells that there are more.
@@ -74,6 +74,6 @@ fn main(rt: HostRuntime) {
     let mut input = [0u8; 4097];
     match files::read_standard_input(rt, b"pcode-list", &mut input) {
         Some(n) => list(rt, &input[..n]),
-        None => files::tell_status(rt, Status::Failed),
+        None => Status::Failed.tell(rt),
     }
 }

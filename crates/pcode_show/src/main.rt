@@ -93,5 +93,5 @@ fn show_arguments(rt: HostRuntime, count: usize) -> Tally {
 
 fn main(rt: HostRuntime) {
     let tally = show_arguments(rt, files::argument_count(rt));
-    files::tell_status(rt, tally.status());
+    tally.status().tell(rt);
 }

@@ -38,7 +38,10 @@ pub fn print_number(rt: HostRuntime, n: u64) {
 }
 
 pub fn print_signed(rt: HostRuntime, n: i32) {
-    let _ = print!(rt; "{n}");
+    if n < 0 {
+        print_text(rt, b"-");
+    }
+    print_number(rt, u64::from(n.unsigned_abs()));
 }
 
 // A double's bits, 16 hexadecimal digits.
@@ -47,12 +50,15 @@ pub fn print_bits(rt: HostRuntime, bits: u64) {
 }
 
 pub fn print_span(rt: HostRuntime, s: Span) {
-    let _ = print!(rt; "{}..{}", s.start, s.end);
+    print_number(rt, s.start as u64);
+    print_text(rt, b"..");
+    print_number(rt, s.end as u64);
 }
 
 // As `pcode-list` prints it.
 pub fn print_refusal(rt: HostRuntime, r: Refusal) {
-    let number = answers::refusal_number(r);
-    let place = answers::refusal_place(r);
-    let _ = print!(rt; "refused {number} at {place}");
+    print_text(rt, b"refused ");
+    print_number(rt, answers::refusal_number(r));
+    print_text(rt, b" at ");
+    print_number(rt, answers::refusal_place(r) as u64);
 }

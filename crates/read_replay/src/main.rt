@@ -172,15 +172,15 @@ impl Totals {
     }
 
     fn print(self, rt: HostRuntime) {
-        print_count(rt, self.texts, " texts, ");
-        print_count(rt, self.read, " read\n");
-        print_count(rt, self.tokens, " tokens, ");
-        print_count(rt, self.actions, " actions, ");
-        print_count(rt, self.operands, " operands, ");
-        print_count(rt, self.levels, " levels, ");
-        print_count(rt, self.labels, " labels\n");
-        print_count(rt, self.long, " numbers Long\n");
-        print_count(rt, self.differences, " differences\n");
+        print_count(rt, self.texts, b" texts, ");
+        print_count(rt, self.read, b" read\n");
+        print_count(rt, self.tokens, b" tokens, ");
+        print_count(rt, self.actions, b" actions, ");
+        print_count(rt, self.operands, b" operands, ");
+        print_count(rt, self.levels, b" levels, ");
+        print_count(rt, self.labels, b" labels\n");
+        print_count(rt, self.long, b" numbers Long\n");
+        print_count(rt, self.differences, b" differences\n");
     }
 }
 
@@ -219,7 +219,7 @@ fn hold(
     expect_answer(&mut c, of, reading);
     c.end(next);
     if totals.differences == 0 {
-        records::print_difference(rt, totals.texts, path, c.wrong);
+        records::print_difference(rt, totals.texts, path.as_bytes(), c.wrong);
     }
     totals.add(reading.unwrap_or(NO_ENTRIES), &c);
 }

@@ -75,7 +75,7 @@ fn hold(rt: HostRuntime, list: &[u8], stop: usize, next: usize, text: &[u8], tot
     };
     expect_answer(&mut c, of, reading);
     c.end(next);
-    records::print_difference(rt, totals.texts, "vectors", c.wrong);
+    records::print_difference(rt, totals.texts, b"vectors", c.wrong);
     totals.add(entries_of(reading), of, &c);
 }
 

@@ -6,6 +6,7 @@
 
 ghost use Rattle.std.specs.Prelude.{◌<◌, ◌≤◌, IfOk, IfSome, length};
 
+use printing::{print_number, print_text};
 use std::fs::File;
 use std::io;
 use tokens::TokenKind;
@@ -209,13 +210,20 @@ pub fn read_list(rt: HostRuntime, path: &str, list: &mut [u8]) -> io::Result<usi
 
 // ---- what the programs print
 
-pub fn print_count(rt: HostRuntime, n: u64, what: &str) {
-    let _ = print!(rt; "{n}{what}");
+pub fn print_count(rt: HostRuntime, n: u64, what: &[u8]) {
+    print_number(rt, n);
+    print_text(rt, what);
 }
 
 // Which text of all differs, the file, and the byte there of the first number that was not as expected; nothing where all were.
-pub fn print_difference(rt: HostRuntime, text: u64, path: &str, wrong: Option<usize>) {
+pub fn print_difference(rt: HostRuntime, text: u64, path: &[u8], wrong: Option<usize>) {
     if let Some(byte) = wrong {
-        let _ = print!(rt; "text {text} differs, {path} byte {byte}\n");
+        print_text(rt, b"text ");
+        print_number(rt, text);
+        print_text(rt, b" differs, ");
+        print_text(rt, path);
+        print_text(rt, b" byte ");
+        print_number(rt, byte as u64);
+        print_text(rt, b"\n");
     }
 }
