@@ -158,6 +158,29 @@ unfolding natural is_natural run_of
 parsed_told top true w = refl
 parsed_told top false w = refl
 
+-- the largest number of a width
+pub data Largest : Class → ℕ → Type 0 where
+  u8 : Largest C.U8 255
+  u16 : Largest C.U16 65535
+
+natural-told : {m : Class} {top : ℕ} → Largest m top → (text s : List ℕ) (at : ℕ)
+    → Std.is_some (natural top (integer_text text (token_of (get_or s at 0)))) ≡ class_at m text s at
+unfolding class_at integer_text
+natural-told u8 text s at = let t = token_of (get_or s at 0) in parsed_told 255 (is_kind t.kind K.Integer) (raw_text text t)
+natural-told u16 text s at = let t = token_of (get_or s at 0) in parsed_told 65535 (is_kind t.kind K.Integer) (raw_text text t)
+
+module _ {m : Class} {top : ℕ} (l : Largest m top) (text s : List ℕ) (at : ℕ) (t : Token) (r v : Std.Option ℕ) where
+  parsed_at : t ≡ token_of (get_or s at 0) → r ≡ natural top (integer_text text t) → r ≡ v → Std.is_some v ≡ class_at m text s at
+  parsed_at e a q = ap Std.is_some (sym q ∙ a ∙ ap (λ (x : Token). natural top (integer_text text x)) e) ∙ natural-told l text s at
+
+pub natural-is : {m : Class} {top : ℕ} → Largest m top → (text s : List ℕ) (at : ℕ) (t : Token) (n : ℕ) (r : Std.Option ℕ)
+    → t ≡ token_of (get_or s at 0) → r ≡ natural top (integer_text text t) → r ≡ Some n → true ≡ class_at m text s at
+natural-is l text s at t n r e a q = parsed_at l text s at t r (Some n) e a q
+
+pub natural-is_not : {m : Class} {top : ℕ} → Largest m top → (text s : List ℕ) (at : ℕ) (t : Token) (r : Std.Option ℕ)
+    → t ≡ token_of (get_or s at 0) → r ≡ natural top (integer_text text t) → r ≡ None → false ≡ class_at m text s at
+natural-is_not l text s at t r e a q = parsed_at l text s at t r None e a q
+
 -- ---- the class at a place
 
 pub fits-inside : (m : Class) (text s : List ℕ) (at : ℕ) → at < length s → fits_at m text s at ≡ class_at m text s at
@@ -225,19 +248,15 @@ module _ (m : Class) (text s : List ℕ) (at : ℕ) (h : at < length s) where
         rw (n, fits-inside C.Value text s at h)
         (q ∙ sym (accepted-ok r) ∙ ap is-accepted (a ∙ ap (value_answer text) et) ∙ value-told text s at f h)
 
+    -- of either width
+    natural_fits : {n : Class} {top : ℕ} → Largest n top → (r : Std.Option ℕ) → r ≡ natural top (integer_text text t) → b ≡ Std.is_some r → m ≡ n → b ≡ fits_at m text s at
+    natural_fits {n = n} l r a q p = rw (p, fits-inside n text s at h) (q ∙ parsed_at l text s at t r r et a refl)
+
     pub u8-fits : (r : Std.Option ℕ) → r ≡ natural 255 (integer_text text t) → b ≡ Std.is_some r → m ≡ C.U8 → b ≡ fits_at m text s at
-    unfolding class_at integer_text
-    u8-fits r a q n =
-        let x = token_of (get_or s at 0) in
-        rw (n, fits-inside C.U8 text s at h)
-        (q ∙ ap Std.is_some (a ∙ ap (λ (y : Token). natural 255 (integer_text text y)) et) ∙ parsed_told 255 (is_kind x.kind K.Integer) (raw_text text x))
+    u8-fits r a q n = natural_fits u8 r a q n
 
     pub u16-fits : (r : Std.Option ℕ) → r ≡ natural 65535 (integer_text text t) → b ≡ Std.is_some r → m ≡ C.U16 → b ≡ fits_at m text s at
-    unfolding class_at integer_text
-    u16-fits r a q n =
-        let x = token_of (get_or s at 0) in
-        rw (n, fits-inside C.U16 text s at h)
-        (q ∙ ap Std.is_some (a ∙ ap (λ (y : Token). natural 65535 (integer_text text y)) et) ∙ parsed_told 65535 (is_kind x.kind K.Integer) (raw_text text x))
+    u16-fits r a q n = natural_fits u16 r a q n
 
 -- ---- counts
 
