@@ -84,14 +84,14 @@ extern "C" {
 
 /* Bytes of stack, measured for the worst texts that were found, and some ten percent more; compare/stack holds the calls to them. The
  * number behind a name is the length of text, in bytes, up to which it holds; without one it holds for any text. */
-#define PCODE_READ_STACK_4096 196000
-#define PCODE_READ_STACK_16384 1250000
-#define PCODE_READ_STACK 2110000
-#define PCODE_EXPORT_STACK_1024 336000
-#define PCODE_EXPORT_STACK_4096 463000
-#define PCODE_EXPORT_STACK 4270000
-#define PCODE_LEX_STACK_1024 11500
-#define PCODE_LEX_STACK_4096 84000
+#define PCODE_READ_STACK_4096 182000
+#define PCODE_READ_STACK_16384 1155000
+#define PCODE_READ_STACK 2020000
+#define PCODE_EXPORT_STACK_1024 160000
+#define PCODE_EXPORT_STACK_4096 309000
+#define PCODE_EXPORT_STACK 4040000
+#define PCODE_LEX_STACK_1024 9400
+#define PCODE_LEX_STACK_4096 72500
 #define PCODE_LEX_STACK 590000
 #define PCODE_OTHER_STACK 1900
 #define PCODE_THREAD_STACK 6291456 /* for a thread that makes any of these calls: the most of them, and room for its own */
