@@ -67,7 +67,7 @@ fn hand_over(text: &[u8], scratch: &mut [u64], table: &mut [u64]) -> Result<usiz
     if table.len() < n {
         return Err(Refusal::TokenTableShort(n));
     }
-    table[..n].copy_from_slice(&scratch[..n]);
+    tables::copy_front(scratch, n, table);
     Ok(n)
 }
 

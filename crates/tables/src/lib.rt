@@ -3,12 +3,13 @@
 
 ghost use Rattle.std.specs.Prelude.{◌≡◌, ◌++◌, ◌≤◌, length, take, drop};
 
-// The first n of src, put at the start of dst; what stands behind them stays. Not inlined: one place of the archive for C copies tables. It is a
-// memmove all the same, since the two slices are not known to lie apart; docs/LOOK-BACK.md says what is to be done.
-#[inline(never)]
+// The first n of src, put at the start of dst; what stands behind them stays. Not by `copy_from_slice`, which becomes a memmove, since
+// the two slices are not known to lie apart: the archive for C is to need memcpy and memset alone.
 pub fn copy_front(src: &[u64], n: usize, dst: &mut [u64])
     requires { (n ≤ length src.now) × (n ≤ length dst.old) }
     ensures { dst.new ≡ take n src.now ++ drop n dst.old }
 {
-    dst[..n].copy_from_slice(&src[..n]);
+    for i in 0..n {
+        dst[i] = src[i];
+    }
 }

@@ -1,9 +1,5 @@
 -- `lexer::hand_over` meets its contract: rows 3 to 5, from what stands in the scratch table. Assumes nothing.
 use borrow.Author.Rules.{rules}
-use mathlib.Core.Path.{ap}
-use mathlib.Core.List.{List, ◌++◌}
-use Prim.Native.Nat.{ℕ}
-use lib.ListN.{drop}
 use Rattle.lexer.proofs.Rows.{row34, row5, accept}
 use Rattle.lexer.proofs.hand_over.Goals as goal
 
@@ -13,6 +9,8 @@ returns-in_err-n c = search (rules, row34)
 pub returns-then-table-n : goal.returns-then-table-n
 returns-then-table-n c = row5 _ _ _ _ c.in_ok-n.ensures c.if-table-n.true
 
+pub copy_front-requires : goal.copy_front-requires
+copy_front-requires c = let h = c.in_ok-n.ensures.few in search rules
+
 pub returns : goal.returns
-returns c =
-    accept _ _ _ _ c.in_ok-n.ensures c.if-table-n.false _ (ap (λ (l : List ℕ). l ++ drop c.in_ok-n.n c.args.table.now) c.copy_from_slice.ensures.after)
+returns c = accept _ _ _ _ c.in_ok-n.ensures c.if-table-n.false _ c.copy_front.ensures
