@@ -144,7 +144,8 @@ fn print_raw(rt: HostRuntime, bounds: Span) {
     print_span(rt, bounds);
     print_text(rt, b" [");
     print_text(rt, tokens::raw_text(b"start: Add", token));
-    print_text(rt, b"]\n");
+    print_text(rt, b"]");
+    print_text(rt, b"\n");
 }
 
 // ---- deltas
