@@ -5,12 +5,13 @@ use mathlib.Core.List.{List, [], ◌∷◌}
 use Prim.Native.Nat.{ℕ, ◌+◌, ◌*◌, ◌-◌, ◌≤◌, ◌<◌}
 use native.Mathlib.Numerals.{add-one}
 use native.Mathlib.Omega.{arith}
-use lib.Dec.{leb}
+use lib.Dec.{eqb, leb}
 use lib.ListN.{length, take, drop, get_or, drop_of_length-le, length-drop}
 use lib.Seq.{drop-cons, take_all}
-use borrow.Author.Tests.{le-leb, lt-leb, leb-true, leb-false, eqb-true}
+use borrow.Author.Tests.{le-leb, lt-leb, leb-true, leb-false, lt-ltb, le-ltb, eqb-true}
 use Rattle.std.specs.Prelude.{Option, Some, None}
 use Rattle.scanner.specs.Bytes.{is_digit}
+use Rattle.scanner.specs.Ends.{digits_end}
 use Rattle.scanner.proofs.Runs.{inside}
 use Rattle.numbers.specs.Integers.{with_byte, value_from, value_of, up_to, is_natural, natural, has_minus, minus_end, largest, with_sign, integer}
 
@@ -93,3 +94,12 @@ module _ (s : List ℕ) where
     pub signed_or_none : (x y : Option ℕ) → x ≡ natural top (take (length s - m) (drop m s)) → x ≡ y → with_sign t y ≡ integer s
     unfolding integer
     signed_or_none x y ex e = ap (with_sign t) (sym e ∙ ex ∙ told-by) ∙ simp et
+
+module _ (s : List ℕ) where
+  pub no_bytes : length s ≡ 0 → false ≡ is_natural s
+  unfolding is_natural
+  no_bytes h = simp (le-ltb 0 (length s) (omega arith))
+
+  pub all_digits : 0 < length s → (e : ℕ) → e ≡ digits_end s 0 → eqb e (length s) ≡ is_natural s
+  unfolding is_natural
+  all_digits h e p = simp (lt-ltb 0 (length s) h, p)
