@@ -20,7 +20,7 @@
  *
  * What a call does: it writes what is told here and nothing else. It keeps no pointer, has no state and allocates nothing, so threads
  * may call at the same time with tables and out of their own. Its stack depends on the length of the text: the constants PCODE_.._STACK,
- * in bytes. The worst text found takes 1,836,288 of pcode_read and 3,671,904 of pcode_export, so give a thread that calls them 6,291,456
+ * in bytes. The worst text found takes 1,836,288 of pcode_read and 3,671,888 of pcode_export, so give a thread that calls them 6,291,456
  * (PCODE_THREAD_STACK). A main thread usually has 8,388,608.
  *
  * A call that can refuse returns 0, or the number of the refusal. A refusal changes no table and no output. Its place goes to out[0] of
