@@ -83,14 +83,14 @@ block-part B.Try = refl
 block-part B.Catch = refl
 block-part B.Finally = refl
 
-pub block_goes : (b : BlockKind) (text s a a' l : List ℕ) (c d : At) (room j : ℕ) (k : Bool) (r : Result At Unread) → Fine text s c → k ≡ eqb (kind_at s c.at) 10 → k ≡ true → (room ≡ 0 → ⊥) →
-    (j ≡ block_number b) × (j ≤ 3) → a' ≡ set a c.events (log_word 3 j) → d ≡ logged c → LevelRead text s a' l d (room - 1) true r → BlockRead b text s a l c room r
-block_goes b text s a a' l c d room j k r f e z o p q y v =
+pub block_goes : (b : BlockKind) (text s a a' l : List ℕ) (c d : At) (room : ℕ) (k : Bool) (r : Result At Unread) → Fine text s c → k ≡ eqb (kind_at s c.at) 10 → k ≡ true → (room ≡ 0 → ⊥) →
+    a' ≡ set a c.events (log_word 3 (block_number b)) → d ≡ logged c → LevelRead text s a' l d (room - 1) true r → BlockRead b text s a l c room r
+block_goes b text s a a' l c d room k r f e z o q y v =
     let i = kind-known s c.at k 10 e z (omega arith) in
     let m = i.1 in
     let t : room ≡ suc (room - 1) = omega arith in
     let n = set a c.events (log_word 3 (part_number (part_of b))) in
-    let w : a' ≡ n = q ∙ ap (λ (x : ℕ). set a c.events (log_word 3 x)) (p.0 ∙ block-part b) in
+    let w : a' ≡ n = q ∙ ap (λ (x : ℕ). set a c.events (log_word 3 x)) (block-part b) in
     let v' : LevelRead text s n l (logged c) (room - 1) true r =
     subst (λ (x : At). LevelRead text s n l x (room - 1) true r) y (subst (λ (x : List ℕ). LevelRead text s x l d (room - 1) true r) w v) in
     record {
@@ -100,6 +100,12 @@ block_goes b text s a a' l c d room j k r f e z o p q y v =
           ∙ level-inner text s n l (logged c) (room - 1) r v' σ);
       ahead = further_on text s c (logged c) r (logged_on text s c f i.0) v'.ahead;
     }
+
+-- of the number j that `events::block_number` gives
+pub block_goes_by : (b : BlockKind) (text s a a' l : List ℕ) (c d : At) (room j : ℕ) (k : Bool) (r : Result At Unread) → Fine text s c → k ≡ eqb (kind_at s c.at) 10 → k ≡ true → (room ≡ 0 → ⊥) →
+    (j ≡ block_number b) × (j ≤ 3) → a' ≡ set a c.events (log_word 3 j) → d ≡ logged c → LevelRead text s a' l d (room - 1) true r → BlockRead b text s a l c room r
+block_goes_by b text s a a' l c d room j k r f e z o p q y v =
+    block_goes b text s a a' l c d room k r f e z o (q ∙ ap (λ (x : ℕ). set a c.events (log_word 3 x)) p.0) y v
 
 -- ---- a block and the end of its action
 

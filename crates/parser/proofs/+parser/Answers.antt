@@ -2,7 +2,7 @@
 -- of BlockLaws, TryLaws or LevelLaws, with the facts listed where the search would not reach them. Assumes nothing.
 use Rattle.std.proofs.Common.{rules}
 use Rattle.operands.proofs.Runs.{fine-to, met}
-use Rattle.parser.proofs.BlockLaws.{block-bad, block-deep, block_goes, blocks-none, in_fine, last-block-bad, last-block_ok, opened-fine, opened_less}
+use Rattle.parser.proofs.BlockLaws.{block-bad, block-deep, block_goes_by, blocks-none, in_fine, last-block-bad, last-block_ok, opened-fine, opened_less}
 use Rattle.parser.proofs.TryLaws.{catch_asked, catch-bad, catch-fine, catch_less, catch-next, catch_ok, caught_less, finally-fine, finally_less, finally-next, last-catch, last_end, last-finally, last-item, tried_before, tried_less, try-bad, try-ends, try_ok}
 use Rattle.parser.proofs.LevelLaws.{acted_less, action_not, action-whole, item-newline, level_close_bad, level_closes, level_fails, level-short, level-whole, number_fits, operands-bad, reach_less, reach_next}
 use Rattle.parser.proofs.+parser.Goals as goal
@@ -63,7 +63,7 @@ pub block-actions-requires : goal.block-actions-requires
 block-actions-requires t c = (search opened_less, search opened-fine)
 
 pub block-returns : goal.block-returns
-block-returns t c = search block_goes
+block-returns t c = search block_goes_by
 
 -- ---- blocks
 
